@@ -1,0 +1,14 @@
+-- A candidate execution: its events, numbered from 0 in the order of the list, and six sets of pairs of events.
+use mathlib.Core.Bool.{Bool}
+use mathlib.Core.List.{List}
+use Prim.Native.Nat.{ℕ}
+use Rattle.executions.specs.declared.events.Event.{Event}
+use Rattle.executions.specs.declared.ties.Relation.{Relation}
+
+-- for each relation a set of pairs, by its test
+abbrev pub Ties : Type 0
+Ties = Relation → ℕ → ℕ → Bool
+
+pub record Execution : Type 0 where
+  pub events : List Event
+  pub ties : Ties

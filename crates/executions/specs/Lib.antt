@@ -1,0 +1,5 @@
+pub mod Sorts
+pub mod Events
+pub mod Ties
+pub mod Faults
+pub mod Execution

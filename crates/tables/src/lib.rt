@@ -1,0 +1,6 @@
+// The caller's two tables and the calls that build a case in them: open, enter, tie and untie.
+// The case itself is a few plain numbers; the tables are handed to each call.
+pub mod calls;
+pub mod kinds;
+
+pub use kinds::OpenCase;
