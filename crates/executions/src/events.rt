@@ -16,7 +16,11 @@ pub struct Event {
 
 impl Event {
     // A record that holds no event.
-    pub const UNUSED: Event = Event { thread: 0, sort: 0, place: 0 };
+    pub const UNUSED: Event = Event {
+        thread: 0,
+        sort: 0,
+        place: 0,
+    };
 
     pub fn is(&self, sort: Sort) -> bool
         ensures { λ r. ⌜ r ≡ is sort (now (self .entry)) ⌝ }

@@ -26,14 +26,6 @@ pub enum Cause {
     BufferTooShort = 15,
 }
 
-impl Cause {
-    pub fn number(self) -> u8
-        ensures { λ r. ⌜ r ≡ cause-number self ⌝ }
-    {
-        self as u8
-    }
-}
-
 // The part of the bench that declines.
 #[derive(Clone, Copy, PartialEq, Eq, Debug)]
 pub enum Layer {
@@ -45,18 +37,26 @@ pub enum Layer {
     Text = 3,
 }
 
-impl Layer {
-    pub fn number(self) -> u8
-        ensures { λ r. ⌜ r ≡ layer-number self ⌝ }
-    {
-        self as u8
-    }
-}
-
 // The place is what the cause speaks of: an event, a relation, a place of the case, a line, or 0.
 #[derive(Clone, Copy, PartialEq, Eq, Debug)]
 pub struct Fault {
     pub cause: Cause,
     pub layer: Layer,
     pub place: u32,
+}
+
+impl Fault {
+    // The number of its cause.
+    pub fn number(&self) -> u8
+        ensures { λ r. ⌜ r ≡ cause-number (now (self .entry) .cause) ⌝ }
+    {
+        self.cause as u8
+    }
+
+    // The number of its layer.
+    pub fn layer_number(&self) -> u8
+        ensures { λ r. ⌜ r ≡ layer-number (now (self .entry) .layer) ⌝ }
+    {
+        self.layer as u8
+    }
 }

@@ -24,9 +24,10 @@ use Rattle.tables.specs.Tables.{Tables, plain-of, ties-of, word-at, Exact, Rep
 
 -- a call that keeps the tables exact does on exact tables what it does on any
 pub does : {A : Type 0} (step : Plain → Plain × A) (t t′ : Tables) (r : A) → (plain-of t′, r) ≡ step (plain-of t) → (Exact t → Exact t′) → Does step t t′ r
-does step t t′ r e keeps = record
-    { on-any = e
-    ; on-exact = λ p h. let all = e ∙ ap step (h .0) in ((ap (λ q. q .0) all, keeps (h .1)), ap (λ q. q .1) all) }
+does step t t′ r e keeps = record {
+  on-any = e;
+  on-exact = λ p h. let all = e ∙ ap step (h .0) in ((ap (λ q. q .0) all, keeps (h .1)), ap (λ q. q .1) all);
+}
 
 -- a call that leaves the tables as they were
 pub leaves : {A : Type 0} (step : Plain → Plain × A) (t : Tables) (r : A) → (plain-of t, r) ≡ step (plain-of t) → Does step t t r
@@ -93,12 +94,14 @@ cleared-record rs i h =
 
 -- tables of zeros hold the blank case
 pub holds-blank : (rs : List Event) (ws : List ℕ) → Represents (zeros rs ws) blank
-holds-blank rs ws =
-    ( ap (λ ts. record { execution = record { events = []; ties = ts }; mark = Open }) (fun-ext λ r. fun-ext λ a. fun-ext λ b. no-ties ws r a b)
-    , record
-      { other-records = λ i h k. cleared-record rs i k
-      ; other-words = λ r a h k. cleared-word ws _ (word-within r a k)
-      ; other-bits = λ r a b h k. no-ties ws r a b } )
+holds-blank rs ws = (
+  ap (λ ts. record { execution = record { events = []; ties = ts }; mark = Open }) (fun-ext λ r. fun-ext λ a. fun-ext λ b. no-ties ws r a b),
+  record {
+    other-records = λ i h k. cleared-record rs i k;
+    other-words = λ r a h k. cleared-word ws _ (word-within r a k);
+    other-bits = λ r a b h k. no-ties ws r a b;
+  },
+)
 
 -- ---- enter
 
@@ -120,15 +123,16 @@ module _ (t : Tables) (e : Event) (room : t .count < 64) (n : ℕ) (s : short (l
       (take-more-set (t .records) (t .count) e (omega (arith, records)))
 
   stays-exact : Exact t → Exact (with-record t e)
-  stays-exact x = record
-      { other-records = λ i h k. getD-set-other (t .records) (t .count) i e unused (λ q. omega arith) ∙ x .other-records i (omega arith) k
-      ; other-words = λ r a h k. x .other-words r a (omega arith) k
-      ; other-bits = λ r a b h k. ⊎-elim (λ l. x .other-bits r a b l (omega arith)) (λ g. no-word (t .words) r a b (x .other-words r a g (omega arith))) (cases-lt a (t .count)) }
+  stays-exact x = record {
+    other-records = λ i h k. getD-set-other (t .records) (t .count) i e unused (λ q. omega arith) ∙ x .other-records i (omega arith) k;
+    other-words = λ r a h k. x .other-words r a (omega arith) k;
+    other-bits = λ r a b h k. ⊎-elim (λ l. x .other-bits r a b l (omega arith)) (λ g. no-word (t .words) r a b (x .other-words r a g (omega arith))) (cases-lt a (t .count));
+  }
 
   -- an event that is entered
   pub enters : in-range e ≡ true → Does (enter-plain (length (t .records)) n e) t (with-record t e) (Ok (t .count))
   enters i =
       does (enter-plain (length (t .records)) n e) t (with-record t e) (Ok (t .count))
-        (ap₂ (λ p k. (p, Ok k)) holds (sym counted)
-          ∙ enter-ok _ (leb 64 (length (take (t .count) (t .records)))) _ _ _ _ _ s (lt-leb 64 _ (subst (λ (k : ℕ). k < 64) (sym counted) room)) i)
-        stays-exact
+      (ap₂ (λ p k. (p, Ok k)) holds (sym counted)
+      ∙ enter-ok _ (leb 64 (length (take (t .count) (t .records)))) _ _ _ _ _ s (lt-leb 64 _ (subst (λ (k : ℕ). k < 64) (sym counted) room)) i)
+      stays-exact

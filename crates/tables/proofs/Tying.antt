@@ -46,11 +46,12 @@ tests false (Some q) true true f g h k r e = let same : q ≡ r = cc in (refl, a
 pub known : (records words n number a b : ℕ) (r : Relation) → named records words n number a b ≡ Ok r → Known records words n number a b r
 known records words n number a b r e =
     let all = tests (short records words) (relation-of number) (ltb a n) (ltb b n) _ _ _ _ r e in
-    record
-      { enough = all .0
-      ; numbers = numbered-found relation-number relations number r (all .1)
-      ; first = ltb-true a n (all .2)
-      ; second = ltb-true b n (all .3) }
+    record {
+      enough = all .0;
+      numbers = numbered-found relation-number relations number r (all .1);
+      first = ltb-true a n (all .2);
+      second = ltb-true b n (all .3);
+    }
 
 -- a call sees the count of the case, also where the tables are too short to hold it
 pub named-count : (t : Tables) → t .count ≤ 64 → (words number a b : ℕ)
@@ -90,13 +91,13 @@ different n n′ a a′ z h = go (eqb n′ n) (eqb a′ a) refl refl
 module _ (g : Bool → Bool → Bool) (idle : (x : Bool) → g x false ≡ x) (ws : List ℕ) (r : Relation) (a b w : ℕ)
     (fits-a : a < 64) (fits-b : b < 64) (long-enough : 384 ≤ length ws)
     (changed : (x : ℕ) → bit w x ≡ g (bit (getD ws (word-at (relation-number r) a) 0) x) (eqb x b)) where
-
   -- in the row itself
   here : (x : ℕ) → (ltb x 64 && bit w x) ≡ g (ltb x 64 && bit (getD ws (word-at (relation-number r) a) 0) x) (eqb x b)
   here x = ⊎-elim inside outside (cases-lt x 64)
     where
       inside : x < 64 → (ltb x 64 && bit w x) ≡ g (ltb x 64 && bit (getD ws (word-at (relation-number r) a) 0) x) (eqb x b)
       inside h = rw (lt-ltb x 64 h) (changed x)
+
       outside : 64 ≤ x → (ltb x 64 && bit w x) ≡ g (ltb x 64 && bit (getD ws (word-at (relation-number r) a) 0) x) (eqb x b)
       outside h = rw (le-ltb x 64 h, ne-eqb x b (λ e. omega arith)) (sym (idle false))
 
@@ -106,7 +107,7 @@ module _ (g : Bool → Bool → Bool) (idle : (x : Bool) → g x false ≡ x) (w
   same r′ a′ b′ p q =
       let within : word-at (relation-number r) a < length ws = omega (arith, word-within r a fits-a) in
       rw (p, q, lt-ltb a 64 fits-a, getD-set-same ws (word-at (relation-number r) a) w 0 within, eq-eqb (relation-number r) (relation-number r) refl, eq-eqb a a refl)
-        (here b′)
+      (here b′)
 
   -- in any other row
   unmoved : (r′ : Relation) (a′ b′ : ℕ) → (relation-number r′ ≡ relation-number r → a′ ≡ a → ⊥)
@@ -117,7 +118,7 @@ module _ (g : Bool → Bool → Bool) (idle : (x : Bool) → g x false ≡ x) (w
       inside : a′ < 64 → ties-of (set ws (word-at (relation-number r) a) w) r′ a′ b′ ≡ ties-of ws r′ a′ b′
       inside h =
           let ne : word-at (relation-number r′) a′ ≡ word-at (relation-number r) a → ⊥ =
-                λ e. let both = same-row r′ r a′ a h fits-a e in apart (both .0) (both .1) in
+          λ e. let both = same-row r′ r a′ a h fits-a e in apart (both .0) (both .1) in
           ap (λ v. ltb a′ 64 && (ltb b′ 64 && bit v b′)) (getD-set-other ws (word-at (relation-number r) a) (word-at (relation-number r′) a′) w 0 ne)
 
   apart-stays : (r′ : Relation) (a′ b′ : ℕ) → (relation-number r′ ≡ relation-number r → a′ ≡ a → ⊥)
@@ -130,24 +131,25 @@ module _ (g : Bool → Bool → Bool) (idle : (x : Bool) → g x false ≡ x) (w
       → ties-of (set ws (word-at (relation-number r) a) w) r′ a′ b′ ≡ g (ties-of ws r′ a′ b′) (pair r a b r′ a′ b′)
   ties-after r′ a′ b′ =
       ⊎-elim
-        (λ p. ⊎-elim (λ q. same r′ a′ b′ p q) (λ q. apart-stays r′ a′ b′ (λ _ e. q e)) (cases-eq a′ a))
-        (λ p. apart-stays r′ a′ b′ (λ e _. p e))
-        (cases-eq (relation-number r′) (relation-number r))
+      (λ p. ⊎-elim (λ q. same r′ a′ b′ p q) (λ q. apart-stays r′ a′ b′ (λ _ e. q e)) (cases-eq a′ a))
+      (λ p. apart-stays r′ a′ b′ (λ e _. p e))
+      (cases-eq (relation-number r′) (relation-number r))
 
   -- what stood past n events of the case still does not
   pub exact-after : (n : ℕ) (rs : List Event) → a < n → b < n
       → Exact (record { count = n; records = rs; words = ws }) → Exact (record { count = n; records = rs; words = set ws (word-at (relation-number r) a) w })
-  exact-after n rs la lb x = record
-      { other-records = x .other-records
-      ; other-words = λ r′ a′ h k.
-          getD-set-other ws (word-at (relation-number r) a) (word-at (relation-number r′) a′) w 0
-            (λ e. let both = same-row r′ r a′ a k fits-a e in omega arith)
-          ∙ x .other-words r′ a′ h k
-      ; other-bits = λ r′ a′ b′ h k.
-          ties-after r′ a′ b′
-          ∙ ap (g (ties-of ws r′ a′ b′)) (other-target r′ a′ b′ (λ e. omega arith))
-          ∙ idle (ties-of ws r′ a′ b′)
-          ∙ x .other-bits r′ a′ b′ h k }
+  exact-after n rs la lb x = record {
+    other-records = x .other-records;
+    other-words = λ r′ a′ h k.
+        getD-set-other ws (word-at (relation-number r) a) (word-at (relation-number r′) a′) w 0
+        (λ e. let both = same-row r′ r a′ a k fits-a e in omega arith)
+        ∙ x .other-words r′ a′ h k;
+    other-bits = λ r′ a′ b′ h k.
+        ties-after r′ a′ b′
+        ∙ ap (g (ties-of ws r′ a′ b′)) (other-target r′ a′ b′ (λ e. omega arith))
+        ∙ idle (ties-of ws r′ a′ b′)
+        ∙ x .other-bits r′ a′ b′ h k;
+  }
     where
       other-target : (r′ : Relation) (a′ b′ : ℕ) → (b′ ≡ b → ⊥) → pair r a b r′ a′ b′ ≡ false
       other-target r′ a′ b′ ne = rw (ne-eqb b′ b ne) (and-false (eqb (relation-number r′) (relation-number r)) (eqb a′ a))
@@ -171,10 +173,10 @@ module _ (t : Tables) (room : t .count ≤ 64) (number a b : ℕ) where
 
   named-step : (call : Call) (res : Result Relation Fault) → naming ≡ res
       → on-named call (length (t .records)) (length (t .words)) number a b (plain-of t)
-        ≡ elim res [ Err f ↦ (plain-of t, Err f) | Ok r ↦ call r a b (plain-of t) ]
+      ≡ elim res [ Err f ↦ (plain-of t, Err f) | Ok r ↦ call r a b (plain-of t) ]
   named-step call res e =
       ap (λ (q : Result Relation Fault). elim q as (λ _. Plain × Result (Unit {0}) Fault) [ Err f ↦ (plain-of t, Err f) | Ok r ↦ call r a b (plain-of t) ])
-        (named-count t room (length (t .words)) number a b ∙ e)
+      (named-count t room (length (t .words)) number a b ∙ e)
 
   -- a tie that is not named well is refused by either call
   pub unnamed : (call : Call) (f : Fault) → naming ≡ Err f → Does (on-named call (length (t .records)) (length (t .words)) number a b) t t (Err f)
@@ -196,8 +198,8 @@ module _ (t : Tables) (room : t .count ≤ 64) (number a b : ℕ) where
     tie-tests x y p q =
         let counted = length-take-le (t .count) (t .records) (omega (arith, long (length (t .records)) (length (t .words)) (facts .enough))) in
         ap₂ (λ (u v : Bool). cond (not u) (refused {A = Unit {0}} (plain-of t) DoesNotFit a) (cond v (refused (plain-of t) OverLimit b) (tied r a b (plain-of t), Ok tt)))
-          (ap₂ (λ u v. fits r a u b v) (getD-take (t .count) (t .records) a unused (facts .first)) (getD-take (t .count) (t .records) b unused (facts .second)) ∙ p)
-          (ap (λ n. taken n (ties-of (t .words)) r a b) counted ∙ q)
+        (ap₂ (λ u v. fits r a u b v) (getD-take (t .count) (t .records) a unused (facts .first)) (getD-take (t .count) (t .records) b unused (facts .second)) ∙ p)
+        (ap (λ n. taken n (ties-of (t .words)) r a b) counted ∙ q)
 
     pub tie-unfit : fits r a (getD (t .records) a unused) b (getD (t .records) b unused) ≡ false
         → Does (tie-plain (length (t .records)) (length (t .words)) number a b) t t (Err (refusal DoesNotFit a))
@@ -222,10 +224,10 @@ module _ (t : Tables) (room : t .count ≤ 64) (number a b : ℕ) where
         let lb : b < 64 = omega (arith, facts .second) in
         let lw : 384 ≤ length (t .words) = enough .1 in
         does (on-named call (length (t .records)) (length (t .words)) number a b) t (with-word t (word-at (relation-number r) a) w) (Ok tt)
-          (ap (λ (ts : Ties). (record { execution = record { events = take (t .count) (t .records); ties = ts }; mark = Open }, Ok tt))
-              (fun-ext λ r′. fun-ext λ a′. fun-ext λ b′. ties-after g idle (t .words) r a b w la lb lw changed r′ a′ b′)
-            ∙ sym (named-step call (Ok r) e ∙ q))
-          (exact-after g idle (t .words) r a b w la lb lw changed (t .count) (t .records) (facts .first) (facts .second))
+        (ap (λ (ts : Ties). (record { execution = record { events = take (t .count) (t .records); ties = ts }; mark = Open }, Ok tt))
+        (fun-ext λ r′. fun-ext λ a′. fun-ext λ b′. ties-after g idle (t .words) r a b w la lb lw changed r′ a′ b′)
+        ∙ sym (named-step call (Ok r) e ∙ q))
+        (exact-after g idle (t .words) r a b w la lb lw changed (t .count) (t .records) (facts .first) (facts .second))
 
     module _ (i w : ℕ) (there : i ≡ word-at (relation-number r) a) where
       written : (call : Call) (g : Bool → Bool → Bool) (idle : (x : Bool) → g x false ≡ x)
@@ -234,8 +236,8 @@ module _ (t : Tables) (room : t .count ≤ 64) (number a b : ℕ) where
           → Does (on-named call (length (t .records)) (length (t .words)) number a b) t (with-word t i w) (Ok tt)
       written call g idle q =
           subst
-            (λ (j : ℕ). ((x : ℕ) → bit w x ≡ g (bit (getD (t .words) j 0) x) (eqb x b)) → Does (on-named call (length (t .records)) (length (t .words)) number a b) t (with-word t j w) (Ok tt))
-            (sym there) (written-there call g idle w q)
+          (λ (j : ℕ). ((x : ℕ) → bit w x ≡ g (bit (getD (t .words) j 0) x) (eqb x b)) → Does (on-named call (length (t .records)) (length (t .words)) number a b) t (with-word t j w) (Ok tt))
+          (sym there) (written-there call g idle w q)
 
       pub tie-done : fits r a (getD (t .records) a unused) b (getD (t .records) b unused) ≡ true → taken (t .count) (ties-of (t .words)) r a b ≡ false
           → bit w ≡ adding b (bit (getD (t .words) i 0))
@@ -244,7 +246,7 @@ module _ (t : Tables) (room : t .count ≤ 64) (number a b : ℕ) where
       tie-done p q s =
           let lb : b < 64 = omega (arith, facts .second) in
           written tie-known (λ x y. x || y) or-idle (tie-tests true false p q)
-            (λ x. ap (λ (f : Set). f x) s ∙ ap (λ (u : Bool). bit (getD (t .words) i 0) x || u) (and-true (eqb x b) (lt-ltb b 64 lb)))
+          (λ x. ap (λ (f : Set). f x) s ∙ ap (λ (u : Bool). bit (getD (t .words) i 0) x || u) (and-true (eqb x b) (lt-ltb b 64 lb)))
 
       pub untie-done : ties-of (t .words) r a b ≡ true
           → bit w ≡ dropping b (bit (getD (t .words) i 0))
@@ -252,8 +254,8 @@ module _ (t : Tables) (room : t .count ≤ 64) (number a b : ℕ) where
       unfolding dropping
       untie-done p s =
           written untie-known (λ x y. x && not y) and-idle
-            (ap (λ (u : Bool). cond (not u) (refused {A = Unit {0}} (plain-of t) NoSuchTie a) (untied r a b (plain-of t), Ok tt)) p)
-            (λ x. ap (λ (f : Set). f x) s)
+          (ap (λ (u : Bool). cond (not u) (refused {A = Unit {0}} (plain-of t) NoSuchTie a) (untied r a b (plain-of t), Ok tt)) p)
+          (λ x. ap (λ (f : Set). f x) s)
 
       -- the word that was written, by the number that named its relation
       pub wrote : (change : Set → Set) → bit w ≡ change (bit (getD (t .words) i 0)) → Written (word-at number a) change (t .words) (set (t .words) i w) (Ok tt)

@@ -81,9 +81,10 @@ enter-plain records words e p =
 abbrev pub named : ℕ → ℕ → ℕ → ℕ → ℕ → ℕ → Result Relation Fault
 named records words n number a b =
     cond (short records words) (Err (refusal TooShort 0))
-    (elim (relation-of number)
-      [ None ↦ Err (refusal NoSuchRelation number)
-      | Some r ↦ cond (not (ltb a n)) (Err (refusal NoSuchEvent a)) (cond (not (ltb b n)) (Err (refusal NoSuchEvent b)) (Ok r)) ])
+    (elim (relation-of number) [
+      | None ↦ Err (refusal NoSuchRelation number)
+      | Some r ↦ cond (not (ltb a n)) (Err (refusal NoSuchEvent a)) (cond (not (ltb b n)) (Err (refusal NoSuchEvent b)) (Ok r))
+    ])
 
 -- some event has an rf tie to the read b
 abbrev pub has-rf : ℕ → Ties → ℕ → Bool

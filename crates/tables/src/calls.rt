@@ -16,6 +16,7 @@ use executions::Relation;
 
 // How many event records and tie words a case needs; longer tables are untouched past them.
 pub const RECORDS: usize = 64;
+
 pub const WORDS: usize = 384;
 
 impl OpenCase {
@@ -31,15 +32,13 @@ impl OpenCase {
         Ok(OpenCase { count: 0 })
     }
 
-    // How many events the case has.
-    pub fn count(&self) -> usize
-        ensures { λ r. ⌜ r ≡ now (self .entry) .count ⌝ }
-    {
-        self.count
-    }
-
     // Appends an event and answers its number.
-    pub fn enter(&mut self, events: &mut [Event], ties: &[u64], event: Event) -> Result<usize, Fault>
+    pub fn enter(
+        &mut self,
+        events: &mut [Event],
+        ties: &[u64],
+        event: Event,
+    ) -> Result<usize, Fault>
         ensures does { λ r. ⌜ Does (enter-plain (length (now (events .entry))) (length (now (ties .entry))) event) (tables (now (self .entry)) (now (events .entry)) (now (ties .entry))) (tables (now (self .exit)) (now (events .exit)) (now (ties .entry))) r ⌝ }
         ensures writes { λ r. ⌜ Entered event (tables (now (self .entry)) (now (events .entry)) (now (ties .entry))) (tables (now (self .exit)) (now (events .exit)) (now (ties .entry))) r ⌝ }
     {
@@ -59,7 +58,14 @@ impl OpenCase {
     }
 
     // Adds the tie from the first event to the second, by the number of its relation.
-    pub fn tie(&self, events: &[Event], ties: &mut [u64], relation: u32, first: u32, second: u32) -> Result<(), Fault>
+    pub fn tie(
+        &self,
+        events: &[Event],
+        ties: &mut [u64],
+        relation: u32,
+        first: u32,
+        second: u32,
+    ) -> Result<(), Fault>
         ensures does { λ r. ⌜ Does (tie-plain (length (now (events .entry))) (length (now (ties .entry))) relation first second) (tables (now (self .entry)) (now (events .entry)) (now (ties .entry))) (tables (now (self .entry)) (now (events .entry)) (now (ties .exit))) r ⌝ }
         ensures writes { λ r. ⌜ Written (word-number relation first) (adding second) (now (ties .entry)) (now (ties .exit)) r ⌝ }
     {
@@ -77,7 +83,14 @@ impl OpenCase {
     }
 
     // Takes the tie from the first event to the second out again.
-    pub fn untie(&self, events: &[Event], ties: &mut [u64], relation: u32, first: u32, second: u32) -> Result<(), Fault>
+    pub fn untie(
+        &self,
+        events: &[Event],
+        ties: &mut [u64],
+        relation: u32,
+        first: u32,
+        second: u32,
+    ) -> Result<(), Fault>
         ensures does { λ r. ⌜ Does (untie-plain (length (now (events .entry))) (length (now (ties .entry))) relation first second) (tables (now (self .entry)) (now (events .entry)) (now (ties .entry))) (tables (now (self .entry)) (now (events .entry)) (now (ties .exit))) r ⌝ }
         ensures writes { λ r. ⌜ Written (word-number relation first) (dropping second) (now (ties .entry)) (now (ties .exit)) r ⌝ }
     {
@@ -92,7 +105,14 @@ impl OpenCase {
     }
 
     // What tie and untie test first: the tables, the relation and the two events.
-    fn named(&self, records: usize, words: usize, relation: u32, first: u32, second: u32) -> Result<Relation, Fault>
+    fn named(
+        &self,
+        records: usize,
+        words: usize,
+        relation: u32,
+        first: u32,
+        second: u32,
+    ) -> Result<Relation, Fault>
         ensures { λ r. ⌜ r ≡ named-plain records words (now (self .entry) .count) relation first second ⌝ }
     {
         if short(records, words) {
@@ -179,7 +199,11 @@ fn short(records: usize, words: usize) -> bool
 fn refusal(cause: Cause, place: u32) -> Fault
     ensures { λ r. ⌜ r ≡ refusal-of cause place ⌝ }
 {
-    Fault { cause, layer: Layer::Entry, place }
+    Fault {
+        cause,
+        layer: Layer::Entry,
+        place,
+    }
 }
 
 // Sets the first n elements of a table to a blank one.

@@ -13,9 +13,10 @@ loop-d-again c = any-more _ (c .loop-d .d) (c .loop-d .inv) (or-from _ _ (sym (c
 pub returns-then-is-tied : need.returns-then-is-tied
 returns-then-is-tied c =
     sym (any-here _ (c .args .n) (c .loop-d .d) (c .loop-d-test .taken)
-      (elim (c .then-is-tied .came)
-        [ then-is-tied·by·then-is-tied w ↦ or-left _ _ (sym (w .if-is-tied .ensures tt))
-        | then-is-tied·by·else-is-tied·then-is-tied-2 w ↦ or-right _ _ (sym (w .if-is-tied-2 .ensures tt)) ]))
+    (elim (c .then-is-tied .came) [
+      | then-is-tied·by·then-is-tied w ↦ or-left _ _ (sym (w .if-is-tied .ensures tt))
+      | then-is-tied·by·else-is-tied·then-is-tied-2 w ↦ or-right _ _ (sym (w .if-is-tied-2 .ensures tt))
+    ]))
 
 pub returns : need.returns
 returns c = any-all _ (c .loop-d .d) (c .args .n) (c .loop-d .kept .d-end) (c .loop-d-test .left) (c .loop-d .inv)
