@@ -3,3 +3,4 @@ pub mod Events
 pub mod Ties
 pub mod Faults
 pub mod Execution
+pub mod Words

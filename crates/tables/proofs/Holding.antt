@@ -19,8 +19,11 @@ use Rattle.executions.specs.declared.ties.Relation.{Relation}
 use Rattle.executions.specs.declared.ties.Relation.the-variants.{Rf, Co, Addr, Data, Ctrl, Rmw}
 use Rattle.executions.specs.Events.{in-range}
 use Rattle.executions.specs.Ties.{relation-number}
-use Rattle.tables.specs.Plain.{Plain, Open, blank, short, entered, enter-plain, unused}
-use Rattle.tables.specs.Tables.{Tables, plain-of, ties-of, word-at, Exact, Represents, Does}
+use Rattle.executions.specs.Execution.{unused}
+use Rattle.executions.specs.Words.{ties-of}
+use Rattle.executions.proofs.Words.{word-within, no-word, no-event}
+use Rattle.tables.specs.Plain.{Plain, Open, blank, short, entered, enter-plain}
+use Rattle.tables.specs.Tables.{Tables, plain-of, Exact, Represents, Does}
 
 -- a call that keeps the tables exact does on exact tables what it does on any
 pub does : {A : Type 0} (step : Plain → Plain × A) (t t′ : Tables) (r : A) → (plain-of t′, r) ≡ step (plain-of t) → (Exact t → Exact t′) → Does step t t′ r
@@ -36,43 +39,6 @@ leaves step t r e = does step t t r e (λ x. x)
 -- tables that are not too short
 pub long : (records words : ℕ) → short records words ≡ false → (64 ≤ records) × (384 ≤ words)
 long records words e = let parts = or-parts (ltb records 64) (ltb words 384) e in (ltb-false records 64 (parts .0), ltb-false words 384 (parts .1))
-
--- ---- words and ties
-
--- a relation has a number from 1 to 6
-pub number-range : (r : Relation) → (1 ≤ relation-number r) × (relation-number r ≤ 6)
-number-range Rf = (omega arith, omega arith)
-number-range Co = (omega arith, omega arith)
-number-range Addr = (omega arith, omega arith)
-number-range Data = (omega arith, omega arith)
-number-range Ctrl = (omega arith, omega arith)
-number-range Rmw = (omega arith, omega arith)
-
--- the word of an event is one of the 384
-pub word-within : (r : Relation) (a : ℕ) → a < 64 → word-at (relation-number r) a < 384
-word-within r a h = let n = number-range r in omega arith
-
-pub and-false : (x y : Bool) → (x && (y && false)) ≡ false
-and-false true true = refl
-and-false true false = refl
-and-false false y = refl
-
--- a word of zeros has no tie
-pub no-word : (ws : List ℕ) (r : Relation) (a b : ℕ) → getD ws (word-at (relation-number r) a) 0 ≡ 0 → ties-of ws r a b ≡ false
-unfolding ties-of
-no-word ws r a b e = rw (e, bit-zero b) (and-false (ltb a 64) (ltb b 64))
-
--- nor has an event past 63
-pub no-event : (ws : List ℕ) (r : Relation) (a b : ℕ) → 64 ≤ a → ties-of ws r a b ≡ false
-unfolding ties-of
-no-event ws r a b h = rw (le-ltb a 64 h) refl
-
--- in words of 64 bits, a tie is a bit of its word
-pub tied-when : (ws : List ℕ) (r : Relation) (a b : ℕ) → a < 64 → getD ws (word-at (relation-number r) a) 0 < 2 ^ 64
-    → ties-of ws r a b ≡ bit (getD ws (word-at (relation-number r) a) 0) b
-unfolding ties-of
-tied-when ws r a b h w =
-    ⊎-elim (λ k. rw (lt-ltb a 64 h, lt-ltb b 64 k) refl) (λ k. rw (lt-ltb a 64 h, le-ltb b 64 k) (sym (bit-outside _ b w k))) (cases-lt b 64)
 
 -- ---- open
 

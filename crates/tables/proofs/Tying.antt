@@ -19,12 +19,14 @@ use Rattle.executions.specs.declared.events.Event.{Event}
 use Rattle.executions.specs.declared.faults.Cause.the-variants.{DoesNotFit, OverLimit, NoSuchTie}
 use Rattle.executions.specs.declared.faults.Fault.{Fault}
 use Rattle.executions.specs.declared.ties.Relation.{Relation}
-use Rattle.executions.specs.Execution.{Ties}
+use Rattle.executions.specs.Execution.{Ties, unused}
 use Rattle.executions.specs.Ties.{relation-number, relations, relation-of, fits}
+use Rattle.executions.specs.Words.{word-at, ties-of}
 use Rattle.executions.proofs.Numbers.{numbered-found}
-use Rattle.tables.specs.Plain.{Plain, Open, short, named, pair, tied, untied, taken, refusal, refused, on-named, tie-known, tie-plain, untie-known, untie-plain, unused}
-use Rattle.tables.specs.Tables.{Tables, plain-of, ties-of, word-at, Exact, Does, Written}
-use Rattle.tables.proofs.Holding.{long, number-range, word-within, no-event, and-false, does, leaves}
+use Rattle.executions.proofs.Words.{word-within, no-event, and-false, same-row}
+use Rattle.tables.specs.Plain.{Plain, Open, short, named, pair, tied, untied, taken, refusal, refused, on-named, tie-known, tie-plain, untie-known, untie-plain}
+use Rattle.tables.specs.Tables.{Tables, plain-of, Exact, Does, Written}
+use Rattle.tables.proofs.Holding.{long, does, leaves}
 
 -- ---- what a tie that is named well has
 
@@ -69,14 +71,6 @@ named-count t room words number a b = go (short (length (t .records)) words) ref
 
 abbrev pub with-word : Tables → ℕ → ℕ → Tables
 with-word t i w = record { count = t .count; records = t .records; words = set (t .words) i w }
-
--- two rows are in one word only if they are the same row
-same-row : (r r′ : Relation) (a a′ : ℕ) → a < 64 → a′ < 64 → word-at (relation-number r) a ≡ word-at (relation-number r′) a′
-    → (relation-number r ≡ relation-number r′) × (a ≡ a′)
-same-row r r′ a a′ h h′ e =
-    let n = number-range r in
-    let n′ = number-range r′ in
-    (omega arith, omega arith)
 
 -- a pair of another row
 different : (n n′ a a′ : ℕ) (z : Bool) → (n′ ≡ n → a′ ≡ a → ⊥) → (eqb n′ n && (eqb a′ a && z)) ≡ false

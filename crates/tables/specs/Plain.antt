@@ -5,7 +5,6 @@ use mathlib.Core.Bool.{Bool, false, not, cond, _&&_, _||_}
 use mathlib.Core.List.{List, [], _∷_, _++_}
 use Prim.Native.Nat.{ℕ}
 use lib.Dec.{eqb, leb, ltb}
-use lib.ListN.{length, getD}
 use Rattle.std.specs.declared.option.Option.the-variants.{Some, None}
 use Rattle.std.specs.declared.result.Result.{Result}
 use Rattle.std.specs.declared.result.Result.the-variants.{Ok, Err}
@@ -18,7 +17,7 @@ use Rattle.executions.specs.declared.faults.Layer.the-variants.{Entry}
 use Rattle.executions.specs.declared.ties.Relation.{Relation}
 use Rattle.executions.specs.declared.ties.Relation.the-variants.{Rf, Co, Addr, Data, Ctrl, Rmw}
 use Rattle.executions.specs.Events.{in-range}
-use Rattle.executions.specs.Execution.{Execution, Ties}
+use Rattle.executions.specs.Execution.{Execution, Ties, count, event-at}
 use Rattle.executions.specs.Ties.{relation-number, relation-of, fits}
 
 -- a case takes events and ties while it is open, and rulings once it is sealed
@@ -33,18 +32,6 @@ pub record Plain : Type 0 where
 -- no event, no tie, open
 abbrev pub blank : Plain
 blank = record { execution = record { events = []; ties = λ r a b. false }; mark = Open }
-
--- the three bytes of a record that holds no event
-abbrev pub unused : Event
-unused = record { thread = 0; sort = 0; place = 0 }
-
--- how many events there are
-abbrev pub count : Execution → ℕ
-count x = length (x .events)
-
--- the event of a number
-abbrev pub event-at : Execution → ℕ → Event
-event-at x a = getD (x .events) a unused
 
 -- fewer than 64 records or fewer than 384 words
 abbrev pub short : ℕ → ℕ → Bool

@@ -11,10 +11,11 @@ use Rattle.rows.specs.Row.{Set, bit, adding, dropping}
 use Rattle.executions.specs.declared.events.Event.{Event}
 use Rattle.executions.specs.declared.faults.Fault.{Fault}
 use Rattle.executions.specs.declared.ties.Relation.{Relation}
-use Rattle.executions.specs.Execution.{Ties}
+use Rattle.executions.specs.Execution.{unused}
 use Rattle.executions.specs.Ties.{relation-number}
+use Rattle.executions.specs.Words.{word-at, ties-of}
 use Rattle.tables.specs.declared.kinds.OpenCase.{OpenCase}
-use Rattle.tables.specs.Plain.{Plain, Open, blank, unused, open-plain}
+use Rattle.tables.specs.Plain.{Plain, Open, blank, open-plain}
 
 -- the two tables, with the number of events that the open case carries
 pub record Tables : Type 0 where
@@ -24,14 +25,6 @@ pub record Tables : Type 0 where
 
 abbrev pub tables : OpenCase → List Event → List ℕ → Tables
 tables c rs ws = record { count = c .count; records = rs; words = ws }
-
--- the word that holds the targets of event a in the relation of that number
-abbrev pub word-at : ℕ → ℕ → ℕ
-word-at number a = 64 * (number - 1) + a
-
--- the ties that the words hold: bit b of the word of a
-unfoldable pub ties-of : List ℕ → Ties
-ties-of ws r a b = ltb a 64 && (ltb b 64 && bit (getD ws (word-at (relation-number r) a) 0) b)
 
 -- the plain case that tables hold, whatever else is in them
 abbrev pub plain-of : Tables → Plain

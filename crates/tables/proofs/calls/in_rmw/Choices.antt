@@ -2,7 +2,7 @@ use mathlib.Core.Path.{_≡_}
 use mathlib.Core.Bool.{false, _||_}
 use Rattle.rows.specs.Row.{any}
 use Rattle.executions.specs.declared.ties.Relation.the-variants.{Rmw}
-use Rattle.tables.specs.Tables.{ties-of}
+use Rattle.executions.specs.Words.{ties-of}
 use Rattle.tables.proofs.calls.in_rmw.Given as given
 
 -- e stands in no rmw tie with the events so far

@@ -3,8 +3,8 @@ use native.Mathlib.Omega.{arith}
 use lib.ListN.{getD}
 use Rattle.rows.specs.Row.{bit}
 use Rattle.executions.specs.Ties.{relation-number}
-use Rattle.tables.specs.Tables.{word-at}
-use Rattle.tables.proofs.Holding.{tied-when}
+use Rattle.executions.specs.Words.{word-at}
+use Rattle.executions.proofs.Words.{tied-when}
 use Rattle.tables.proofs.calls.is_tied.Needs as need
 
 pub returns : need.returns
