@@ -1,0 +1,3 @@
+pub mod Source
+pub mod Cut
+pub mod Lowered
