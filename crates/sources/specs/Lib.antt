@@ -1,3 +1,4 @@
 pub mod Source
 pub mod Cut
 pub mod Lowered
+pub mod Snapshot
