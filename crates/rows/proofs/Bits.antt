@@ -9,7 +9,7 @@ use lib.Dec.{eqb, ltb, lit<}
 use lib.Bits.{bitAnd, bitOr, bitXor, and-shr, or-shr, xor-shr, and-mod, or-mod, xor-mod, and-mask, xor-add-and}
 use lib.Pow.{pow-mono}
 use Rattle.std.proofs.shelf.Bits.{pow-pos, pow-add, pow-below, one-shl}
-use Rattle.std.proofs.shelf.Tests.{eqb-true, eq-eqb, ne-eqb, lt-ltb, le-ltb, cases-order, cases-lt, cases-eq}
+use Rattle.std.proofs.shelf.Tests.{eqb-true, eq-eqb, ne-eqb, lt-ltb, le-ltb, cases-order, cases-lt, cases-eq, both-ways}
 use Rattle.rows.specs.Row.{bit, adding, dropping}
 
 pub and-true : (s : Bool) {t : Bool} → t ≡ true → (s && t) ≡ s
@@ -78,7 +78,7 @@ bit-above : (b d : ℕ) → bit (2 ^ (b + suc d)) b ≡ false
 unfolding bit
 bit-above b d =
     ap (λ (n : ℕ). eqb (n % 2) 1)
-    (ap (λ (n : ℕ). n / 2 ^ b) (pow-add 2 b (suc d)) ∙ mul-div-cancel-left (2 ^ suc d) (pow-pos b) ∙ pow-suc 2 d)
+      (ap (λ (n : ℕ). n / 2 ^ b) (pow-add 2 b (suc d)) ∙ mul-div-cancel-left (2 ^ suc d) (pow-pos b) ∙ pow-suc 2 d)
     ∙ ap (λ (n : ℕ). eqb n 1) (mul-mod-left (2 ^ d) 2)
 
 pub bit-one : (c b : ℕ) → bit (2 ^ c) b ≡ eqb b c
@@ -86,19 +86,17 @@ bit-one c b = ⊎-elim same (⊎-elim less more) (cases-order b c)
   where
     same : b ≡ c → bit (2 ^ c) b ≡ eqb b c
     same e = subst (λ (n : ℕ). bit (2 ^ n) b ≡ eqb b n) e (bit-top b ∙ sym (eq-eqb b b refl))
-
     less : b < c → bit (2 ^ c) b ≡ eqb b c
     less h =
         let e : b + suc (c - suc b) ≡ c = omega arith in
         subst (λ (n : ℕ). bit (2 ^ n) b ≡ eqb b n) e (bit-above b (c - suc b) ∙ sym (ne-eqb b (b + suc (c - suc b)) (λ z. omega arith)))
-
     more : c < b → bit (2 ^ c) b ≡ eqb b c
     more h = bit-past (2 ^ c) b (pow-below c b h) ∙ sym (ne-eqb b c (λ z. omega arith))
 
 -- ---- the complement of a word of k bits
 
 -- all k bits of the word of ones are set
-bit-ones : (k b : ℕ) → b < k → bit (2 ^ k - 1) b ≡ true
+pub bit-ones : (k b : ℕ) → b < k → bit (2 ^ k - 1) b ≡ true
 bit-ones k b h =
     let whole = ap (λ (w : ℕ). bit w b) (and-mask (2 ^ b) k ∙ mod-eq-of-lt (pow-below b k h)) in
     let both = sym (bit-and (2 ^ b) (2 ^ k - 1) b) ∙ whole ∙ bit-top b in
@@ -126,6 +124,10 @@ bit-not k w b l h = ap (λ (n : ℕ). bit n b) (sym (flip-is k w l)) ∙ bit-fli
 pub bit-outside : (row b : ℕ) → row < 2 ^ 64 → 64 ≤ b → bit row b ≡ false
 bit-outside row b l h = bit-past row b (lt-of-lt-of-le l (pow-mono h))
 
+-- so what is in it has room there
+pub bit-inside : (row b : ℕ) → row < 2 ^ 64 → bit row b ≡ true → b < 64
+bit-inside row b l h = ⊎-elim (λ k. k) (λ k. absurd (both-ways (bit row b) (bit-outside row b l k) h)) (cases-lt b 64)
+
 -- the word `1 << b`
 shifted : (b x : ℕ) → b < 64 → bit ((1 * 2 ^ b) % 2 ^ 64) x ≡ eqb x b
 shifted b x h = ap (λ (w : ℕ). bit w x) (one-shl b 64 h) ∙ bit-one b x
@@ -141,10 +143,8 @@ without-bit row b l h = fun-ext λ x. bit-and row _ x ∙ ⊎-elim (inside x) (o
   where
     less : (1 * 2 ^ b) % 2 ^ 64 < 2 ^ 64
     less = mod-lt (1 * 2 ^ b) (lit< tt)
-
     inside : (x : ℕ) → x < 64 → (bit row x && bit ((2 ^ 64 - 1) - (1 * 2 ^ b) % 2 ^ 64) x) ≡ (bit row x && not (eqb x b))
     inside x k = ap (λ (t : Bool). bit row x && t) (bit-not 64 _ x less k ∙ ap not (shifted b x h))
-
     outside : (x : ℕ) → 64 ≤ x → (bit row x && bit ((2 ^ 64 - 1) - (1 * 2 ^ b) % 2 ^ 64) x) ≡ (bit row x && not (eqb x b))
     outside x k = rw (bit-outside row x l k) refl
 
@@ -159,6 +159,5 @@ without-none row b l h = fun-ext λ x. ⊎-elim (here x) (there x) (cases-eq x b
   where
     here : (x : ℕ) → x ≡ b → bit row x ≡ (bit row x && not (eqb x b))
     here x e = rw (bit-outside row x l (omega arith)) refl
-
     there : (x : ℕ) → (x ≡ b → ⊥) → bit row x ≡ (bit row x && not (eqb x b))
     there x n = rw (ne-eqb x b n) (sym (and-true (bit row x) refl))

@@ -1,0 +1,4 @@
+pub mod Algebra
+pub mod Chains
+pub mod Table
+pub mod View
