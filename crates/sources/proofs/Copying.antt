@@ -11,7 +11,7 @@ use Rattle.std.specs.declared.option.Option.{Option}
 use Rattle.std.specs.declared.option.Option.the-variants.{Some, None}
 use Rattle.std.specs.Options.{valueOr}
 use Rattle.std.specs.shelf.Maps.{nth}
-use Rattle.std.proofs.shelf.Lists.{take-more, take-more-set, take-all, getD-set-same, getD-set-other}
+use Rattle.std.proofs.shelf.Lists.{length-take-le, take-more, take-more-set, take-all, getD-set-same, getD-set-other}
 use Rattle.std.proofs.shelf.Maps.{nth-getD}
 use Rattle.std.proofs.shelf.Tests.{cases-eq, cases-lt, le-ltb}
 use Rattle.rows.specs.Row.{Set, bit}
@@ -23,7 +23,8 @@ use Rattle.executions.specs.Ties.{relation-number, relation-of}
 use Rattle.executions.specs.Words.{word-at}
 use Rattle.executions.proofs.Words.{number-range}
 use Rattle.sources.specs.Source.{bounded, targets}
-use Rattle.sources.specs.Snapshot.{RowsCopied}
+use Rattle.sources.specs.declared.kinds.Snapshot.{Snapshot}
+use Rattle.sources.specs.Snapshot.{RowsCopied, execution}
 
 -- one event more
 pub copied-more : (es xs : List Event) (i : ℕ) (e : Event) → i < length es → i < length xs → take i es ≡ take i xs → e ≡ valueOr (nth xs i) unused
@@ -101,3 +102,10 @@ copied-execution x es ws n e events rows =
     ap₂ (λ l k. record { events = l; ties = λ r a b. ltb a k && bit (getD ws (word-at (relation-number r) a) 0) b }) events e
     ∙ ap (λ (ts : Ties). record { events = x .events; ties = ts })
         (fun-ext λ r. fun-ext λ a. fun-ext λ b. copied-ties x ws (subst (λ (k : ℕ). RowsCopied x 6 k ws) e rows) r a b)
+
+-- a copy has as many events as it counts, at most 64
+pub held-count : (s : Snapshot) → count (execution s) ≡ s .count
+held-count s = length-take-le (s .count) (s .events) (omega (arith, s .few, s .records))
+
+pub held-few : (s : Snapshot) → count (execution s) ≤ 64
+held-few s = omega (arith, held-count s, s .few)

@@ -1,2 +1,2 @@
-mod Copying
+pub mod Copying
 mod Layers

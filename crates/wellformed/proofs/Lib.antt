@@ -1,0 +1,3 @@
+mod First
+mod Rows
+mod Walking

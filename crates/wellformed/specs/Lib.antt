@@ -1,0 +1,4 @@
+pub mod Events
+pub mod Faults
+pub mod Walk
+pub mod WellFormed

@@ -1,0 +1,2 @@
+// The check of a whole case: whether a candidate execution is well formed, and its first fault if it is not.
+mod ties;
