@@ -1,3 +1,5 @@
+mod Cohering
 mod First
+mod Locking
 mod Rows
 mod Walking

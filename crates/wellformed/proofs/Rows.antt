@@ -8,7 +8,7 @@ use native.Mathlib.Omega.{arith}
 use lib.Dec.{ltb}
 use Rattle.std.proofs.shelf.Tests.{lt-ltb, le-ltb, cases-lt, or-from}
 use lib.Bits.{bitOr}
-use Rattle.rows.specs.Row.{Set, bit, any, Lowest}
+use Rattle.rows.specs.Row.{Set, bit, any, count, tick, Lowest}
 use Rattle.rows.proofs.Bits.{bit-or}
 use Rattle.rows.proofs.Any.{any-from}
 
@@ -41,3 +41,16 @@ gathered-more t w e a s before here = rw add-one (bit-or t w e ∙ ap₂ _||_ be
 -- and all of them
 pub gathered-all : (t e i n : ℕ) (s : Set) → i ≡ n → bit t e ≡ any i s → bit t e ≡ any n s
 gathered-all t e i n s p h = subst (λ (k : ℕ). bit t e ≡ any k s) p h
+
+-- ---- counting the numbers in a set
+
+pub many-none : (s : Set) → 0 ≡ count 0 s
+unfolding count
+many-none s = refl
+
+pub many-more : (s : Set) (i found more : ℕ) → found ≡ count i s → more ≡ tick (s i) → found + more ≡ count (i + 1) s
+unfolding count
+many-more s i found more before here = rw (add-one i) (omega (arith, before, here))
+
+pub many-all : (s : Set) (i n found : ℕ) → i ≡ n → found ≡ count i s → found ≡ count n s
+many-all s i n found p h = subst (λ (k : ℕ). found ≡ count k s) p h

@@ -66,7 +66,7 @@ or-false : (x : Bool) → (x || false) ≡ x
 or-false true = refl
 or-false false = refl
 
-ltb-next : (d a : ℕ) → (d ≡ a → ⊥) → ltb d (a + 1) ≡ ltb d a
+pub ltb-next : (d a : ℕ) → (d ≡ a → ⊥) → ltb d (a + 1) ≡ ltb d a
 ltb-next d a q =
     ⊎-elim (λ h. lt-ltb d (a + 1) (omega arith) ∙ sym (lt-ltb d a h)) (λ h. le-ltb d (a + 1) (omega arith) ∙ sym (le-ltb d a h)) (cases-lt d a)
 

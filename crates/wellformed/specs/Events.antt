@@ -5,6 +5,7 @@ use Prim.Native.Nat.{ℕ, zero, suc, pred, _<_}
 use lib.Dec.{eqb}
 use Rattle.rows.specs.Row.{Set}
 use Rattle.relations.specs.Algebra.{Rel}
+use Rattle.executions.specs.declared.events.Event.{Event}
 use Rattle.executions.specs.declared.sorts.Sort.the-variants.{RcuLock, RcuUnlock, SyncRcu}
 use Rattle.executions.specs.declared.ties.Relation.the-variants.{Co}
 use Rattle.executions.specs.Events.{is, is-read, is-write}
@@ -30,12 +31,18 @@ co x = x .ties Co
 
 -- ---- read-side critical sections
 
--- event i is an rcu-lock, or an rcu-unlock, of thread t
+-- the event is an rcu-lock, or an rcu-unlock, of thread t
+abbrev pub lock-of : ℕ → Event → Bool
+lock-of t e = eqb (e .thread) t && is RcuLock e
+
+abbrev pub unlock-of : ℕ → Event → Bool
+unlock-of t e = eqb (e .thread) t && is RcuUnlock e
+
 abbrev pub locks : Execution → ℕ → Set
-locks x t i = eqb (event-at x i .thread) t && is RcuLock (event-at x i)
+locks x t i = lock-of t (event-at x i)
 
 abbrev pub unlocks : Execution → ℕ → Set
-unlocks x t i = eqb (event-at x i .thread) t && is RcuUnlock (event-at x i)
+unlocks x t i = unlock-of t (event-at x i)
 
 -- how many locks of thread t are open before event i
 unfoldable pub depth : Execution → ℕ → ℕ → ℕ

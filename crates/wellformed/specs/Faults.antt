@@ -82,10 +82,13 @@ read-fault x b = fault-if (is-read (event-at x b) && not (any (count x) (λ a. x
 abbrev pub initial-fault : Execution → ℕ → Option Fault
 initial-fault x p = fault-if (any (count x) (accesses x p) && not (eqb (many (count x) (initials x p)) 1)) InitialWrites p
 
--- two writes of the place that the closure of coherence does not put in an order, or one that it puts before itself
+-- the closure of coherence puts v and w in no order, or in both, or v before itself
+abbrev pub unordered : Execution → ℕ → ℕ → Bool
+unordered x v w = cond (eqb v w) (plus (co x) v v) (cond (plus (co x) v w) (plus (co x) w v) (not (plus (co x) w v)))
+
+-- v and w are writes of the place that are not in order
 abbrev pub disordered : Execution → ℕ → ℕ → ℕ → Bool
-disordered x p v w =
-    writes x p v && (writes x p w && cond (eqb v w) (plus (co x) v v) (cond (plus (co x) v w) (plus (co x) w v) (not (plus (co x) w v))))
+disordered x p v w = writes x p v && (writes x p w && unordered x v w)
 
 abbrev pub coherence-fault : Execution → ℕ → Option Fault
 coherence-fault x p = fault-if (any (count x) (λ v. any (count x) (disordered x p v))) CoherenceNotTotal p
