@@ -5,6 +5,7 @@ ghost use lib.ListN.{length};
 use executions::Event;
 
 // A case of at most 64 events, copied from its source, so that every question is asked once however slow a source is.
+#[derive(Drop)]
 pub struct Snapshot {
     pub(crate) count: usize,
     pub(crate) events: [Event; 64],

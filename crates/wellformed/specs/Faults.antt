@@ -39,7 +39,7 @@ first-in f (x ∷ xs) = or-else (f x) (first-in f xs)
 abbrev pub fault-if : Bool → Cause → ℕ → Option Fault
 fault-if met c place = cond met (Some (record { cause = c; layer = Check; place = place })) None
 
--- ---- the six tests
+-- ---- what is tested
 
 abbrev pub range-fault : Execution → ℕ → Option Fault
 range-fault x i = fault-if (not (in-range (event-at x i))) OutOfRange i
@@ -105,14 +105,36 @@ last-lock x t (suc i) = cond (outermost x t i) i (last-lock x t i)
 abbrev pub thread-fault : Execution → ℕ → Option Fault
 thread-fault x t = or-else (first (count x) (unlock-fault x t)) (fault-if (ltb 0 (depth x t (count x))) LocksNotPaired (last-lock x t (count x)))
 
+-- the six tests, each in its own order
+abbrev pub count-fault : Execution → Option Fault
+count-fault x = fault-if (ltb 64 (count x)) TooManyEvents 64
+
+abbrev pub events-fault : Execution → Option Fault
+events-fault x = first (count x) (range-fault x)
+
+abbrev pub ties-fault : Execution → Option Fault
+ties-fault x = first-in (relation-fault x) relations
+
+abbrev pub reads-fault : Execution → Option Fault
+reads-fault x = first (count x) (read-fault x)
+
+abbrev pub initials-fault : Execution → Option Fault
+initials-fault x = first 16 (λ k. initial-fault x (k + 1))
+
+abbrev pub orders-fault : Execution → Option Fault
+orders-fault x = first 16 (λ k. coherence-fault x (k + 1))
+
+abbrev pub threads-fault : Execution → Option Fault
+threads-fault x = first 8 (λ k. thread-fault x (k + 1))
+
 -- The first fault of an execution: the count, the events by number, the ties, the reads by number, initial writes and coherence by place,
 -- locks by thread.
 abbrev pub first-fault : Execution → Option Fault
 first-fault x =
-    or-else (fault-if (ltb 64 (count x)) TooManyEvents 64)
-    (or-else (first (count x) (range-fault x))
-    (or-else (first-in (relation-fault x) relations)
-    (or-else (first (count x) (read-fault x))
-    (or-else (first 16 (λ k. initial-fault x (k + 1)))
-    (or-else (first 16 (λ k. coherence-fault x (k + 1)))
-    (first 8 (λ k. thread-fault x (k + 1))))))))
+    or-else (count-fault x)
+    (or-else (events-fault x)
+    (or-else (ties-fault x)
+    (or-else (reads-fault x)
+    (or-else (initials-fault x)
+    (or-else (orders-fault x)
+    (threads-fault x))))))

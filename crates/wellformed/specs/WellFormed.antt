@@ -3,17 +3,28 @@ use mathlib.Core.Path.{_≡_}
 use mathlib.Core.Bool.{true}
 use mathlib.Core.Logic.{_⊎_}
 use Prim.Native.Nat.{ℕ, _<_, _≤_}
+use Rattle.std.specs.declared.option.Option.the-variants.{Some, None}
+use Rattle.std.specs.declared.result.Result.{Result}
+use Rattle.std.specs.declared.result.Result.the-variants.{Ok, Err}
 use Rattle.relations.specs.Chains.{Chain}
+use Rattle.executions.specs.declared.faults.Fault.{Fault}
 use Rattle.executions.specs.declared.ties.Relation.{Relation}
 use Rattle.executions.specs.declared.ties.Relation.the-variants.{Rf, Rmw}
 use Rattle.executions.specs.Events.{in-range, is-read}
 use Rattle.executions.specs.Execution.{Execution, count, event-at}
 use Rattle.executions.specs.Ties.{fits}
+use Rattle.sources.specs.declared.kinds.Snapshot.{Snapshot}
+use Rattle.sources.specs.Snapshot.{execution}
+use Rattle.wellformed.specs.Faults.{first-fault}
 use Rattle.wellformed.specs.Events.{accesses, writes, initials, co, unlocks, depth}
 
 -- the tie is there
 abbrev pub Tied : Execution → Relation → ℕ → ℕ → Type 0
 Tied x r a b = x .ties r a b ≡ true
+
+-- the ties go from events to numbers below 64, as those of every source do
+abbrev pub Inside : Execution → Type 0
+Inside x = (r : Relation) (a b : ℕ) → Tied x r a b → (a < count x) × (b < 64)
 
 -- of the two events of a tie, one is e
 abbrev pub Stands : ℕ → ℕ → ℕ → Type 0
@@ -55,3 +66,8 @@ pub record WellFormed (x : Execution) : Type 0 where
   pub ordered : (p : ℕ) → Ordered x p
   -- the locks of each thread are paired
   pub paired : (t : ℕ) → 1 ≤ t → t ≤ 8 → Paired x t
+
+-- What the check answers of an execution: a copy of it exactly if it is well formed, else the fault that comes first.
+abbrev pub Checked : Execution → Result Snapshot Fault → Type 0
+Checked x (Ok s) = (execution s ≡ x) × (first-fault x ≡ None) × WellFormed x
+Checked x (Err f) = (first-fault x ≡ Some f) × (WellFormed x → ⊥)
