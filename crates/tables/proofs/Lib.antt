@@ -1,3 +1,4 @@
-mod Lists
 mod Holding
+mod Lists
+mod Sourcing
 mod Tying

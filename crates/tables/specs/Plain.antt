@@ -13,12 +13,14 @@ use Rattle.executions.specs.declared.events.Event.{Event}
 use Rattle.executions.specs.declared.faults.Cause.{Cause}
 use Rattle.executions.specs.declared.faults.Cause.the-variants.{TooShort, TooManyEvents, OutOfRange, NoSuchEvent, NoSuchRelation, DoesNotFit, OverLimit, NoSuchTie}
 use Rattle.executions.specs.declared.faults.Fault.{Fault}
-use Rattle.executions.specs.declared.faults.Layer.the-variants.{Entry}
+use Rattle.executions.specs.declared.faults.Layer.the-variants.{Entry, Check}
 use Rattle.executions.specs.declared.ties.Relation.{Relation}
 use Rattle.executions.specs.declared.ties.Relation.the-variants.{Rf, Co, Addr, Data, Ctrl, Rmw}
 use Rattle.executions.specs.Events.{in-range}
 use Rattle.executions.specs.Execution.{Execution, Ties, count, event-at}
 use Rattle.executions.specs.Ties.{relation-number, relation-of, fits}
+use Rattle.sources.specs.Source.{bounded}
+use Rattle.wellformed.specs.Faults.{first-fault}
 
 -- a case takes events and ties while it is open, and rulings once it is sealed
 pub data Mark : Type 0 where
@@ -125,3 +127,22 @@ tie-plain = on-named tie-known
 
 abbrev pub untie-plain : ℕ → ℕ → ℕ → ℕ → ℕ → Plain → Plain × Result (Unit {0}) Fault
 untie-plain = on-named untie-known
+
+-- ---- seal and reopen
+
+-- the same case with another mark
+abbrev pub marked : Mark → Plain → Plain
+marked m p = record { execution = p .execution; mark = m }
+
+-- a refusal by the check of a whole case
+abbrev pub check-refusal : Cause → ℕ → Fault
+check-refusal c n = record { cause = c; layer = Check; place = n }
+
+-- seal tests the tables, then the case for its first fault
+abbrev pub seal-plain : ℕ → ℕ → Plain → Plain × Result (Unit {0}) Fault
+seal-plain records words p =
+    cond (short records words) (p, Err (check-refusal TooShort 0))
+    (elim (first-fault (bounded (p .execution))) [ None ↦ (marked Sealed p, Ok tt) | Some f ↦ (p, Err f) ])
+
+abbrev pub reopen-plain : Plain → Plain
+reopen-plain p = marked Open p

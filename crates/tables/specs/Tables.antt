@@ -3,7 +3,7 @@ use mathlib.Core.Path.{_≡_}
 use mathlib.Core.Bool.{Bool, true, false, cond, _&&_}
 use mathlib.Core.List.{List, [], _∷_, _++_}
 use Prim.Native.Nat.{ℕ, _+_, _*_, _-_, _<_, _≤_}
-use lib.Dec.{ltb}
+use denote.Ref.{now}
 use lib.ListN.{length, getD, set, take, drop, replicate}
 use Rattle.std.specs.declared.result.Result.{Result}
 use Rattle.std.specs.declared.result.Result.the-variants.{Ok, Err}
@@ -11,11 +11,16 @@ use Rattle.rows.specs.Row.{Set, bit, adding, dropping}
 use Rattle.executions.specs.declared.events.Event.{Event}
 use Rattle.executions.specs.declared.faults.Fault.{Fault}
 use Rattle.executions.specs.declared.ties.Relation.{Relation}
-use Rattle.executions.specs.Execution.{unused}
+use Rattle.executions.specs.Execution.{Execution, unused}
 use Rattle.executions.specs.Ties.{relation-number}
 use Rattle.executions.specs.Words.{word-at, ties-of}
+use Rattle.executions.specs.declared.faults.Cause.the-variants.{TooShort}
+use Rattle.sources.specs.Source.{bounded}
+use Rattle.wellformed.specs.WellFormed.{WellFormed}
 use Rattle.tables.specs.declared.kinds.OpenCase.{OpenCase}
-use Rattle.tables.specs.Plain.{Plain, Open, blank, open-plain}
+use Rattle.tables.specs.declared.kinds.SealedCase.{SealedCase}
+use Rattle.tables.specs.declared.kinds.TableSource.{TableSource}
+use Rattle.tables.specs.Plain.{Plain, Open, Sealed, blank, short, open-plain, seal-plain, reopen-plain, check-refusal}
 
 -- the two tables, with the number of events that the open case carries
 pub record Tables : Type 0 where
@@ -26,9 +31,13 @@ pub record Tables : Type 0 where
 abbrev pub tables : OpenCase → List Event → List ℕ → Tables
 tables c rs ws = record { count = c .count; records = rs; words = ws }
 
--- the plain case that tables hold, whatever else is in them
+-- the execution that tables hold, whatever else is in them
+abbrev pub held-execution : ℕ → List Event → List ℕ → Execution
+held-execution n rs ws = record { events = take n rs; ties = ties-of ws }
+
+-- the plain case of an open case and its tables
 abbrev pub plain-of : Tables → Plain
-plain-of t = record { execution = record { events = take (t .count) (t .records); ties = ties-of (t .words) }; mark = Open }
+plain-of t = record { execution = held-execution (t .count) (t .records) (t .words); mark = Open }
 
 -- nothing stands past the case: the other records and words are zeros, and so are the bits past the last event
 pub record Exact (t : Tables) : Type 0 where
@@ -66,3 +75,24 @@ Opened rs ws rs′ ws′ (Ok c) =
     × (rs′ ≡ replicate 64 unused ++ drop 64 rs) × (ws′ ≡ replicate 384 0 ++ drop 384 ws)
     × Represents (tables c rs′ ws′) blank
 Opened rs ws rs′ ws′ (Err f) = (open-plain (length rs) (length ws) ≡ Err f) × (rs′ ≡ rs) × (ws′ ≡ ws)
+
+-- ---- sealed cases
+
+-- the plain case of a sealed case and its tables
+abbrev pub sealed-plain : SealedCase → List Event → List ℕ → Plain
+sealed-plain c rs ws = record { execution = held-execution (c .count) rs ws; mark = Sealed }
+
+-- Seal writes no table. It gives the sealed case, which is then well formed, or hands the open case back with the fault.
+abbrev pub Seals : OpenCase → List Event → List ℕ → Result SealedCase (OpenCase × Fault) → Type 0
+Seals o rs ws (Ok c) =
+    (seal-plain (length rs) (length ws) (plain-of (tables o rs ws)) ≡ (sealed-plain c rs ws, Ok tt)) × WellFormed (bounded (held-execution (c .count) rs ws))
+Seals o rs ws (Err back) = (seal-plain (length rs) (length ws) (plain-of (tables o rs ws)) ≡ (plain-of (tables o rs ws), Err (back .1))) × (back .0 ≡ o)
+
+-- Reopen takes a sealed case back to the open one of the same tables.
+abbrev pub Reopens : SealedCase → OpenCase → Type 0
+Reopens c o = (rs : List Event) (ws : List ℕ) → reopen-plain (sealed-plain c rs ws) ≡ plain-of (tables o rs ws)
+
+-- The table source of a sealed case means the records below its count and their words; short tables are refused.
+abbrev pub Sources : SealedCase → List Event → List ℕ → Result TableSource Fault → Type 0
+Sources c rs ws (Ok s) = (short (length rs) (length ws) ≡ false) × (held-execution (s .count) (now (s .events)) (now (s .ties)) ≡ held-execution (c .count) rs ws)
+Sources c rs ws (Err f) = (short (length rs) (length ws) ≡ true) × (f ≡ check-refusal TooShort 0)

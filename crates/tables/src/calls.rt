@@ -133,7 +133,7 @@ impl OpenCase {
 }
 
 // The word with the targets of event a.
-fn word_at(relation: Relation, a: usize) -> usize
+pub(crate) fn word_at(relation: Relation, a: usize) -> usize
     requires { ⌜ a < 64 ⌝ }
     ensures { λ r. ⌜ r ≡ word-number (relation-number relation) a ⌝ ∗ ⌜ r < 384 ⌝ }
 {
@@ -190,7 +190,7 @@ fn in_rmw(ties: &[u64], n: usize, e: usize) -> bool
 }
 
 // Whether the tables have too few records or words.
-fn short(records: usize, words: usize) -> bool
+pub(crate) fn short(records: usize, words: usize) -> bool
     ensures { λ r. ⌜ r ≡ too-short records words ⌝ }
 {
     records < RECORDS || words < WORDS
