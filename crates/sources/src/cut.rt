@@ -6,6 +6,7 @@ use executions::Event;
 use executions::Relation;
 
 // Shows the case below without the ties out of one event in one of addr, data and ctrl. With another relation it shows the case as it is.
+#[derive(Drop)]
 pub struct Cut<S> {
     pub below: S,
     pub relation: u32,

@@ -9,6 +9,7 @@ use executions::Event;
 use executions::Sort;
 
 // Shows the case below with new sorts: for each event below 64 a sort, which is shown where it is weaker than the event's own. 0 is none.
+#[derive(Drop)]
 pub struct Lowered<S> {
     pub below: S,
     pub sorts: [u8; 64],
