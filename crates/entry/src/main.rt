@@ -27,7 +27,9 @@ fn main(rt: LibcRuntime) -> io::Result<()> {
     println!(rt, "A tie taken out and put back")?;
     untie_and_tie(&rt, &case, &events, &mut ties)?;
     println!(rt, "What the tables hold")?;
-    held(&rt, &case, &events, &ties)
+    held(&rt, &case, &events, &ties)?;
+    println!(rt, "Sealing")?;
+    seal_without_rf(&rt, case, &events, &mut ties)
 }
 
 fn event(thread: u8, sort: Sort, place: u8) -> Event {
@@ -154,6 +156,47 @@ fn decline_short_tables(
     entered(rt, fence, answer)?;
     ask_tie(rt, case, events, &mut fewer, 1, 2, 1)?;
     ask_untie(rt, case, &few, ties, 1, 2, 1)
+}
+
+// A case whose read has no write is handed back with the fault; mended, it is sealed.
+fn seal_without_rf(
+    rt: &impl Print,
+    case: OpenCase,
+    events: &[Event],
+    ties: &mut [u64],
+) -> io::Result<()> {
+    ask_untie(rt, &case, events, ties, 1, 2, 1)?;
+    match case.seal(events, ties) {
+        Ok(_) => rt.println("seal: sealed"),
+        Err(back) => {
+            let (open, fault) = back;
+            rt.print("seal")?;
+            refused(rt, fault)?;
+            ask_tie(rt, &open, events, ties, 1, 2, 1)?;
+            seal_and_reopen(rt, open, events, ties)
+        }
+    }
+}
+
+fn seal_and_reopen(
+    rt: &impl Print,
+    case: OpenCase,
+    events: &[Event],
+    ties: &[u64],
+) -> io::Result<()> {
+    match case.seal(events, ties) {
+        Ok(sealed) => {
+            rt.println("seal: sealed")?;
+            let open = sealed.reopen();
+            let count = open.count();
+            println!(rt, "reopen: open again, {count} events")
+        }
+        Err(back) => {
+            let (_, fault) = back;
+            rt.print("seal")?;
+            refused(rt, fault)
+        }
+    }
 }
 
 // Another case, in tables of its own: 64 events enter and the next one does not.

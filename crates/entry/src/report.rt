@@ -6,7 +6,7 @@ use executions::Sort;
 use std::io;
 use tables::OpenCase;
 
-fn refused(rt: &impl Print, fault: Fault) -> io::Result<()> {
+pub(crate) fn refused(rt: &impl Print, fault: Fault) -> io::Result<()> {
     let number = fault.number();
     let layer = fault.layer_number();
     let place = fault.place;

@@ -57,4 +57,3 @@ same-row r r′ a a′ h h′ e =
     let n = number-range r in
     let n′ = number-range r′ in
     (omega arith, omega arith)
-

@@ -1,15 +1,16 @@
 -- The closure decides chains.
-use mathlib.Core.Path.{_≡_, refl, sym, ap, ap₂, _∙_, subst, fun-ext}
-use mathlib.Core.Bool.{Bool, true, false, not, _&&_, _||_}
+use mathlib.Core.Path.{_≡_, sym, subst, fun-ext}
+use mathlib.Core.Bool.{true, false, _&&_}
 use mathlib.Core.Logic.{_⊎_, inl, inr, ⊎-elim}
-use Prim.Native.Nat.{ℕ, zero, suc, _+_, _<_, _≤_}
+use Prim.Native.Nat.{ℕ, zero, suc, _<_, _≤_}
 use native.Mathlib.Omega.{arith}
 use Rattle.std.specs.Orderings.{Decides}
-use Rattle.std.proofs.shelf.Tests.{or-cases, or-left, or-right, or-from, and-parts, and-from, and-left, cases-eq, cases-bool, both-ways}
+use Rattle.std.proofs.shelf.Tests.{or-cases, or-left, or-right, and-parts, and-from, cases-eq, both-ways}
 use Rattle.relations.specs.Algebra.{Rel, paths, plus}
 use Rattle.relations.specs.Chains.{Chain, one, step, Acyclic, DecidesChains}
 use Rattle.relations.specs.Table.{On}
-use Rattle.relations.proofs.Tables.{both-same, never}
+use Rattle.relations.proofs.Ranges.{on-more}
+use Rattle.relations.proofs.Tables.{both-same}
 
 -- ---- a path is a chain
 
@@ -58,12 +59,14 @@ paths-join (suc k) j r a b l h g = ⊎-elim last (λ n. inner (λ x y. paths-joi
         let h′ : paths (suc k) r a k ≡ true = subst (λ (x : ℕ). paths (suc k) r a x ≡ true) e h in
         let g′ : paths (suc k) r k b ≡ true = subst (λ (x : ℕ). paths (suc k) r x b ≡ true) e g in
         paths-meet k r a b (paths-into k r a h′) (paths-out k r b g′)
+
     inner : ((x y : ℕ) → paths k r x j ≡ true → paths k r j y ≡ true → paths k r x y ≡ true) → paths (suc k) r a b ≡ true
     inner join = ⊎-elim from-near from-far (paths-split k r a j h)
       where
         from-near : paths k r a j ≡ true → paths (suc k) r a b ≡ true
         from-near p =
             ⊎-elim (λ q. paths-keep k r a b (join a b p q)) (λ q. paths-meet k r a b (join a k p (q .0)) (q .1)) (paths-split k r j b g)
+
         from-far : (paths k r a k ≡ true) × (paths k r k j ≡ true) → paths (suc k) r a b ≡ true
         from-far p = ⊎-elim (λ q. paths-meet k r a b (p .0) (join k b (p .1) q)) (λ q. paths-meet k r a b (p .0) (q .1)) (paths-split k r j b g)
 
@@ -93,17 +96,16 @@ on-paths k n r on a b h = chain-ends n r on (paths-sound k r a b h)
 pub paths-enough : (n k : ℕ) (r : Rel) → On n r → n ≤ k → paths n r ≡ paths k r
 paths-enough n k r on le = fun-ext λ a. fun-ext λ b. both-same (paths n r a b) (paths k r a b) (there a b) (back a b)
   where
-    wide : On k r
-    wide a b h = let p = on a b h in (omega (arith, p), omega (arith, p))
     there : (a b : ℕ) → paths n r a b ≡ true → paths k r a b ≡ true
-    there a b h = paths-complete k r wide (paths-sound n r a b h)
+    there a b h = paths-complete k r (on-more n k r le on) (paths-sound n r a b h)
+
     back : (a b : ℕ) → paths k r a b ≡ true → paths n r a b ≡ true
     back a b h = paths-complete n r on (paths-sound k r a b h)
 
 -- so n rounds or more are the closure
-pub plus-enough : (i n : ℕ) (r : Rel) → n ≤ i → i ≤ n → n ≤ 64 → On n r → paths i r ≡ plus r
+pub plus-enough : (i n : ℕ) (r : Rel) → n ≤ i → i ≤ 64 → On n r → paths i r ≡ plus r
 unfolding plus
-plus-enough i n r le ge few on = paths-enough i 64 r (λ a b h. let p = on a b h in (omega (arith, p), omega (arith, p))) (omega arith)
+plus-enough i n r le few on = paths-enough i 64 r (on-more n i r le on) few
 
 pub chains-at : (s r : Rel) → s ≡ plus r → On 64 r → DecidesChains s r
 chains-at s r e on = λ a b. subst (λ (t : Rel). Decides (t a b) (Chain r a b)) (sym e) (closure-decides r on a b)
@@ -112,4 +114,4 @@ chains-at s r e on = λ a b. subst (λ (t : Rel). Decides (t a b) (Chain r a b))
 
 pub acyclic-from : (r : Rel) (n : ℕ) → n ≤ 64 → On n r → ((a : ℕ) → a < n → plus r a a ≡ false) → Acyclic r
 acyclic-from r n few on none a s =
-    both-ways (plus r a a) (none a (chain-ends n r on s .0)) (closure-decides r (λ x y h. let p = on x y h in (omega (arith, p), omega (arith, p))) a a .1 s)
+    both-ways (plus r a a) (none a (chain-ends n r on s .0)) (closure-decides r (on-more n 64 r few on) a a .1 s)

@@ -1,17 +1,16 @@
 -- The targets of a set, gathered from one source after another.
 use mathlib.Core.Path.{_≡_, refl, sym, ap, _∙_, subst, fun-ext}
-use mathlib.Core.Bool.{Bool, true, false, not, _&&_, _||_}
-use mathlib.Core.Logic.{_⊎_, inl, inr, ⊎-elim}
+use mathlib.Core.Bool.{Bool, true, false, _&&_, _||_}
+use mathlib.Core.Logic.{⊎-elim}
 use mathlib.Core.List.{List}
 use Prim.Native.Nat.{ℕ, _<_, _^_}
-use native.Mathlib.Omega.{arith}
 use lib.Bits.{bitOr}
 use lib.ListN.{getD}
 use Rattle.std.proofs.shelf.Tests.{cases-eq, and-parts, and-from, or-cases, or-left, or-right, both-ways}
 use Rattle.rows.specs.Row.{Set, bit, dropping, Lowest}
 use Rattle.rows.proofs.Bits.{bit-or, bit-zero}
 use Rattle.rows.proofs.Words.{dropped-parts, dropped-from}
-use Rattle.relations.specs.Algebra.{Rel, any, image}
+use Rattle.relations.specs.Algebra.{Rel, image}
 use Rattle.relations.specs.Table.{table}
 use Rattle.rows.proofs.Any.{any-some, any-from}
 use Rattle.relations.proofs.Tables.{both-same, never, row-is}
@@ -47,6 +46,7 @@ image-split c s r low b = both-same (image r s b) (r c b || image r (dropping c 
         let e = image-some r s b h in
         ⊎-elim (λ z. or-left (r c b) _ (subst (λ (x : ℕ). r x b ≡ true) z (e .3)))
         (λ z. or-right (r c b) _ (image-from r (dropping c s) b (e .0) (e .1) (dropped-from c s (e .0) z (e .2)) (e .3))) (cases-eq (e .0) c)
+
     back : (r c b || image r (dropping c s) b) ≡ true → image r s b ≡ true
     back h =
         ⊎-elim (λ e. image-from r s b c (low .room) (low .member) e)
@@ -73,7 +73,7 @@ unfolding either
 gather-more rows all c s s′ fits low e = fun-ext λ b.
     ap (λ (x : Bool). x || image (table rows) s′ b) (bit-or all (getD rows c 0) b) ∙ or-assoc (bit all b) (bit (getD rows c 0) b) (image (table rows) s′ b)
     ∙ ap (λ (x : Bool). bit all b || x)
-      (ap (λ (t : Set). t b || image (table rows) s′ b) (row-is rows c (low .room) fits) ∙ ap (λ (t : Set). table rows c b || image (table rows) t b) e ∙ sym (image-split c s (table rows) low b))
+    (ap (λ (t : Set). t b || image (table rows) s′ b) (row-is rows c (low .room) fits) ∙ ap (λ (t : Set). table rows c b || image (table rows) t b) e ∙ sym (image-split c s (table rows) low b))
 
 pub gather-all : (r : Rel) (all : ℕ) (s : Set) → ((x : ℕ) → s x ≡ false) → bit all ≡ either (bit all) (image r s)
 unfolding either

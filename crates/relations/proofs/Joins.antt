@@ -1,19 +1,19 @@
 -- Steps that meet at one event, joined row by row.
-use mathlib.Core.Path.{_≡_, refl, sym, ap, ap₂, _∙_, subst, fun-ext}
-use mathlib.Core.Bool.{Bool, true, false, not, cond, _&&_, _||_}
-use mathlib.Core.Logic.{_⊎_, inl, inr, ⊎-elim}
+use mathlib.Core.Path.{_≡_, refl, sym, ap, ap₂, _∙_, fun-ext}
+use mathlib.Core.Bool.{Bool, true, false, _&&_, _||_}
+use mathlib.Core.Logic.{⊎-elim}
 use mathlib.Core.List.{List}
-use Prim.Native.Nat.{ℕ, suc, _+_, _<_, _≤_, _^_}
+use Prim.Native.Nat.{ℕ, _+_, _<_, _≤_}
 use native.Mathlib.Numerals.{add-one}
 use native.Mathlib.Omega.{arith}
 use lib.Bits.{bitOr}
-use lib.Dec.{eqb, ltb}
+use lib.Dec.{ltb}
 use lib.ListN.{length, getD, set}
-use Rattle.std.proofs.shelf.Tests.{cases-eq, cases-lt, cases-bool, lt-ltb, le-ltb, both-ways}
+use Rattle.std.proofs.shelf.Tests.{cases-eq, cases-bool, lt-ltb, le-ltb, both-ways}
 use Rattle.std.proofs.shelf.Ways.{tells}
 use Rattle.rows.specs.Row.{bit}
 use Rattle.rows.proofs.Bits.{bit-or, bit-zero}
-use Rattle.relations.specs.Algebra.{Rel, within, replaced, paths}
+use Rattle.relations.specs.Algebra.{Rel, paths}
 use Rattle.relations.specs.Table.{table, via, On}
 use Rattle.relations.proofs.Tables.{never, table-at, table-far, table-parts}
 use Rattle.relations.proofs.Writes.{set-is}
@@ -61,8 +61,10 @@ joined-more rows old k i long h l e has = set-is rows i _ (joined k (i + 1) (tab
         bit-or _ _ b
         ∙ ap₂ _||_ (sym (table-at rows i b l m) ∙ ap (λ (r : Rel). r i b) e ∙ joined-here k i (table old) b) (sym (table-at old k b h m))
         ∙ sym (joined-next k i (table old) b ∙ ap (λ (x : Bool). table old i b || (x && table old k b)) has)
+
     past : (b : ℕ) → 64 ≤ b → joined k (i + 1) (table old) i b ≡ false
     past b m = joined-next k i (table old) b ∙ rw (table-far old i b m, table-far old k b m, has) refl
+
     others : (a b : ℕ) → (a ≡ i → ⊥) → table rows a b ≡ joined k (i + 1) (table old) a b
     others a b n = ap (λ (r : Rel). r a b) e ∙ joined-other k i a (table old) b n
 
@@ -73,6 +75,7 @@ joined-all k n m r le on = fun-ext λ a. fun-ext λ b. ⊎-elim (yes′ a b) (no
   where
     yes′ : (a b : ℕ) → r a k ≡ true → joined k m r a b ≡ via k r a b
     yes′ a b e = rw (lt-ltb a m (omega (arith, on a k e))) refl
+
     no′ : (a b : ℕ) → r a k ≡ false → joined k m r a b ≡ via k r a b
     no′ a b e = rw e (grind (arith, tells))
 

@@ -1,15 +1,15 @@
 -- On which events the relations of the algebra are.
-use mathlib.Core.Path.{_≡_, refl, sym, ap, _∙_, subst}
-use mathlib.Core.Bool.{Bool, true, false, not, cond, _&&_, _||_}
-use mathlib.Core.Logic.{_⊎_, inl, inr, ⊎-elim}
-use Prim.Native.Nat.{ℕ, zero, suc, _+_, _^_, min, max, _<_, _≤_}
+use mathlib.Core.Path.{_≡_, sym, _∙_}
+use mathlib.Core.Bool.{true, false, not, _&&_}
+use mathlib.Core.Logic.{⊎-elim}
+use Prim.Native.Nat.{ℕ, _^_, min, max, _<_, _≤_}
 use native.Mathlib.Omega.{arith}
 use lib.Dec.{eqb, ltb}
 use Rattle.std.proofs.shelf.Tests.{and-parts, or-cases, ltb-true, eqb-true, cases-bool, cond-true, cond-false}
 use Rattle.rows.specs.Row.{bit}
 use Rattle.rows.proofs.Bits.{bit-inside}
 use Rattle.relations.specs.declared.kinds.Relation.{Relation}
-use Rattle.relations.specs.Algebra.{Set, Rel, empty, identity, union, inter, diff, seq, product, from, to, within, replaced}
+use Rattle.relations.specs.Algebra.{Set, Rel, empty, identity, union, inter, diff, seq, product, from, to, within, only, pair, replaced}
 use Rattle.relations.specs.Table.{On}
 use Rattle.relations.specs.View.{rel, size}
 use Rattle.rows.proofs.Any.{any-some}
@@ -67,6 +67,10 @@ module _ (n : ℕ) (s t : Set) (a b : ℕ) (h : product (within n s) (within n t
   unfolding within
   on-product = (ltb-true a n (and-parts (ltb a n) (s a) (ends .0) .0), ltb-true b n (and-parts (ltb b n) (t b) (ends .1) .0))
 
+pub on-pair : (n a b : ℕ) → On n (pair n a b)
+unfolding pair
+on-pair n a b = on-product n (only a) (only b)
+
 -- a product of two words, each cut to the first n events
 pub on-words : (m n s t : ℕ) → m ≡ min n 64 → s < 2 ^ 64 → t < 2 ^ 64 → On m (product (within n (bit s)) (within n (bit t)))
 on-words m n s t small hs ht a b h =
@@ -91,6 +95,7 @@ on-replaced n a s r on x y h = ⊎-elim here there (cases-bool (eqb x a && ltb a
         let p = and-parts (eqb x a) (ltb a n) e in
         let q = and-parts (ltb y n) (s y) (sym (cond-true _ (ltb y n && s y) (r x y) e) ∙ h) in
         (omega (arith, eqb-true x a (p .0), ltb-true a n (p .1)), ltb-true y n (q .0))
+
     there : (eqb x a && ltb a n) ≡ false → (x < n) × (y < n)
     there e = on x y (sym (cond-false _ (ltb y n && s y) (r x y) e) ∙ h)
 

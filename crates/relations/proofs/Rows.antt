@@ -1,11 +1,10 @@
 -- What one row of an operation's result holds, bit by bit.
-use mathlib.Core.Path.{_≡_, refl, sym, ap, ap₂, _∙_, subst}
-use mathlib.Core.Bool.{Bool, true, false, not, _&&_, _||_}
+use mathlib.Core.Path.{_≡_, sym, ap, ap₂, _∙_}
+use mathlib.Core.Bool.{Bool, not, _&&_, _||_}
 use mathlib.Core.List.{List}
 use Prim.Native.Nat.{ℕ, _-_, _^_, min, _<_}
 use native.Mathlib.Omega.{arith}
 use lib.Bits.{bitAnd, bitOr}
-use lib.Dec.{eqb, ltb}
 use lib.ListN.{getD}
 use Rattle.std.proofs.shelf.Ways.{tells}
 use Rattle.rows.specs.Row.{bit, adding, below}

@@ -1,14 +1,14 @@
 -- Loops that write a table row by row: the first i rows are those of the relation wanted, the others are still empty.
 use mathlib.Core.Path.{_≡_, refl, sym, ap, _∙_, subst, fun-ext}
-use mathlib.Core.Bool.{Bool, true, false, not, cond, _&&_, _||_}
-use mathlib.Core.Logic.{_⊎_, inl, inr, ⊎-elim}
+use mathlib.Core.Bool.{Bool, true, false, _&&_}
+use mathlib.Core.Logic.{⊎-elim}
 use mathlib.Core.List.{List}
-use Prim.Native.Nat.{ℕ, zero, suc, _+_, _^_, max, _<_, _≤_}
+use Prim.Native.Nat.{ℕ, _+_, _^_, _<_, _≤_}
 use native.Mathlib.Omega.{arith}
-use lib.Dec.{eqb, ltb}
+use lib.Dec.{ltb}
 use lib.ListN.{length, getD, set, replicate}
-use Rattle.std.proofs.shelf.Lists.{getD-set-same, getD-set-other, length-set, length-replicate, getD-replicate, getD-past}
-use Rattle.std.proofs.shelf.Tests.{lt-ltb, le-ltb, ltb-true, eq-eqb, ne-eqb, cases-lt, cases-eq, and-parts, and-from, or-cases, not-true, cases-bool, both-ways}
+use Rattle.std.proofs.shelf.Lists.{getD-set-same, getD-set-other, length-set, getD-replicate, getD-past}
+use Rattle.std.proofs.shelf.Tests.{lt-ltb, le-ltb, ltb-true, cases-lt, cases-eq, and-parts, both-ways}
 use Rattle.rows.specs.Row.{bit}
 use Rattle.rows.proofs.Bits.{bit-zero, bit-outside}
 use Rattle.relations.specs.Algebra.{Rel, empty}
@@ -81,7 +81,7 @@ pub table-zeros : table (replicate 64 0) ≡ empty
 unfolding empty
 table-zeros =
     fun-ext λ a. fun-ext λ b. never (table (replicate 64 0) a b)
-      (λ e. both-ways _ (ap (λ (v : ℕ). bit v b) (zeros-at a) ∙ bit-zero b) (table-parts (replicate 64 0) a b e .2))
+    (λ e. both-ways _ (ap (λ (v : ℕ). bit v b) (zeros-at a) ∙ bit-zero b) (table-parts (replicate 64 0) a b e .2))
 
 pub done-none : (r : Rel) → Done (replicate 64 0) 0 r
 done-none r = record { long = refl; front = λ a b h k. absurd (omega arith); rest = λ a h. zeros-at a }
@@ -100,8 +100,10 @@ done-more rows i w r h d new = record { long = length-set rows i w ∙ d .long; 
       where
         same : a ≡ i → bit (getD (set rows i w) a 0) b ≡ r a b
         same e = subst (λ (x : ℕ). bit (getD (set rows i w) x 0) b ≡ r x b) (sym e) (ap (λ (v : ℕ). bit v b) (getD-set-same rows i w 0 (omega (arith, d .long))) ∙ new b k)
+
         other : (a ≡ i → ⊥) → bit (getD (set rows i w) a 0) b ≡ r a b
         other n = ap (λ (v : ℕ). bit v b) (getD-set-other rows i a w 0 n) ∙ d .front a b (omega arith) k
+
     rest : (a : ℕ) → i + 1 ≤ a → getD (set rows i w) a 0 ≡ 0
     rest a l = getD-set-other rows i a w 0 (λ e. omega arith) ∙ d .rest a (omega arith)
 
@@ -114,6 +116,7 @@ done-skip rows i r d none = record { long = d .long; front = front; rest = λ a 
       where
         same : a ≡ i → bit (getD rows a 0) b ≡ r a b
         same e = ap (λ (v : ℕ). bit v b) (d .rest a (omega arith)) ∙ bit-zero b ∙ sym (none b k) ∙ ap (λ (x : ℕ). r x b) (sym e)
+
         other : (a ≡ i → ⊥) → bit (getD rows a 0) b ≡ r a b
         other n = d .front a b (omega arith) k
 
@@ -126,6 +129,7 @@ done-is rows i n r end few on d = fun-ext λ a. fun-ext λ b. both-same (table r
         let p = table-parts rows a b h in
         ⊎-elim (λ l. sym (d .front a b l (p .1)) ∙ p .2)
         (λ l. absurd (both-ways _ (ap (λ (v : ℕ). bit v b) (d .rest a l) ∙ bit-zero b) (p .2))) (cases-lt a i)
+
     back : (a b : ℕ) → r a b ≡ true → table rows a b ≡ true
     back a b h =
         let l = on a b h in

@@ -1,7 +1,7 @@
 -- A relation turned round, one source after another.
-use mathlib.Core.Path.{_≡_, refl, sym, ap, ap₂, _∙_, subst, fun-ext}
-use mathlib.Core.Bool.{Bool, true, false, not, _&&_, _||_}
-use mathlib.Core.Logic.{_⊎_, inl, inr, ⊎-elim}
+use mathlib.Core.Path.{_≡_, refl, ap₂, _∙_, fun-ext}
+use mathlib.Core.Bool.{true, false, not, _&&_, _||_}
+use mathlib.Core.Logic.{⊎-elim}
 use mathlib.Core.List.{List}
 use Prim.Native.Nat.{ℕ, _+_, _<_, _≤_, _^_}
 use native.Mathlib.Omega.{arith}
@@ -10,7 +10,7 @@ use lib.ListN.{length, getD, set, replicate}
 use Rattle.std.proofs.shelf.Tests.{cases-eq, cases-bool, lt-ltb, eq-eqb, ne-eqb}
 use Rattle.std.proofs.shelf.Ways.{tells}
 use Rattle.rows.specs.Row.{Set, bit, adding, dropping, Lowest}
-use Rattle.relations.specs.Algebra.{Rel, empty, union, inverse, product, from, within, only}
+use Rattle.relations.specs.Algebra.{Rel, empty, union, inverse, product, from, within, only, pair}
 use Rattle.relations.specs.Table.{table, On}
 use Rattle.relations.proofs.Tables.{table-zeros, row-is}
 use Rattle.relations.proofs.Writes.{set-adds}
@@ -20,7 +20,7 @@ use Rattle.relations.proofs.Writes.{set-adds}
 pub scatter-more : (rows : List ℕ) (a b w : ℕ) (s s′ : Set) → length rows ≡ 64 → a < 64 → Lowest s b → s′ ≡ dropping b s
     → bit w ≡ adding a (bit (getD rows b 0))
     → union (table (set rows b w)) (product s′ (only a)) ≡ union (table rows) (product s (only a))
-unfolding union product only within dropping
+unfolding union pair product only within dropping
 scatter-more rows a b w s s′ long h low e new =
     ap₂ (λ (r : Rel) (t : Set). union r (product t (only a))) (set-adds rows 64 b a w long (omega arith) (low .room) h new) e
     ∙ (fun-ext λ x. fun-ext λ y. ⊎-elim (same x y) (other x y) (cases-eq x b))
@@ -28,6 +28,7 @@ scatter-more rows a b w s s′ long h low e new =
     same : (x y : ℕ) → x ≡ b → ((table rows x y || ((ltb x 64 && eqb x b) && (ltb y 64 && eqb y a))) || ((s x && not (eqb x b)) && eqb y a))
         ≡ (table rows x y || (s x && eqb y a))
     same x y z = rw (z, low .member, lt-ltb b 64 (low .room), eq-eqb b b refl) (grind (arith, tells))
+
     other : (x y : ℕ) → (x ≡ b → ⊥) → ((table rows x y || ((ltb x 64 && eqb x b) && (ltb y 64 && eqb y a))) || ((s x && not (eqb x b)) && eqb y a))
         ≡ (table rows x y || (s x && eqb y a))
     other x y z = rw (ne-eqb x b z) (grind (arith, tells))
@@ -49,6 +50,7 @@ turn-more rows i t h l e = fun-ext λ b. fun-ext λ x. rw (e, row-is rows i h l)
   where
     same : (b x : ℕ) → x ≡ i → ((ltb x i && table rows x b) || (table rows i b && eqb x i)) ≡ (ltb x (i + 1) && table rows x b)
     same b x z = rw z (grind (arith, tells))
+
     other : (b x : ℕ) → (x ≡ i → ⊥) → ((ltb x i && table rows x b) || (table rows i b && eqb x i)) ≡ (ltb x (i + 1) && table rows x b)
     other b x z = grind (arith, tells)
 
@@ -58,6 +60,7 @@ turn-all m n r le on = fun-ext λ b. fun-ext λ a. ⊎-elim (there a b) (none a 
   where
     there : (a b : ℕ) → r a b ≡ true → (ltb a m && r a b) ≡ r a b
     there a b e = rw (lt-ltb a m (omega (arith, on a b e))) refl
+
     none : (a b : ℕ) → r a b ≡ false → (ltb a m && r a b) ≡ r a b
     none a b e = rw e (grind (arith, tells))
 

@@ -1,18 +1,17 @@
 -- One row rewritten, as the algebra says it.
-use mathlib.Core.Path.{_≡_, refl, sym, ap, ap₂, _∙_, subst, fun-ext}
-use mathlib.Core.Bool.{Bool, true, false, not, cond, _&&_, _||_}
-use mathlib.Core.Logic.{_⊎_, inl, inr, ⊎-elim}
+use mathlib.Core.Path.{_≡_, sym, _∙_, fun-ext}
+use mathlib.Core.Bool.{Bool, false}
+use mathlib.Core.Logic.{_⊎_, ⊎-elim}
 use mathlib.Core.List.{List}
-use Prim.Native.Nat.{ℕ, _-_, _^_, _<_, _≤_}
+use Prim.Native.Nat.{ℕ, _<_, _≤_}
 use native.Mathlib.Omega.{arith}
-use lib.Bits.{bitAnd, bitOr}
-use lib.Dec.{eqb, ltb}
+use lib.Bits.{bitAnd}
 use lib.ListN.{length, getD, set}
 use Rattle.std.proofs.shelf.Ways.{tells}
-use Rattle.std.proofs.shelf.Tests.{lt-ltb, le-ltb, eq-eqb, ne-eqb, cases-eq, cases-lt}
+use Rattle.std.proofs.shelf.Tests.{cases-eq, cases-lt}
 use Rattle.rows.specs.Row.{bit, adding, below}
 use Rattle.rows.proofs.Bits.{bit-and}
-use Rattle.relations.specs.Algebra.{Rel, union, product, within, only, replaced}
+use Rattle.relations.specs.Algebra.{Rel, union, product, within, only, pair, replaced}
 use Rattle.relations.specs.Table.{table}
 use Rattle.relations.proofs.Tables.{table-at, table-far, table-set-same, table-set-other}
 
@@ -28,20 +27,22 @@ set-is rows a w r long h here past others = fun-ext λ x. fun-ext λ b. ⊎-elim
 
 -- row a with b added
 pub set-adds : (rows : List ℕ) (n a b w : ℕ) → length rows ≡ 64 → n ≤ 64 → a < n → b < n → bit w ≡ adding b (bit (getD rows a 0))
-    → table (set rows a w) ≡ union (table rows) (product (within n (only a)) (within n (only b)))
-unfolding union product within only adding
-set-adds rows n a b w long few h k e = set-is rows a w (union (table rows) (product (within n (only a)) (within n (only b)))) long (omega arith) here past others
+    → table (set rows a w) ≡ union (table rows) (pair n a b)
+unfolding union pair product within only adding
+set-adds rows n a b w long few h k e = set-is rows a w (union (table rows) (pair n a b)) long (omega arith) here past others
   where
-    here : (y : ℕ) → y < 64 → bit w y ≡ union (table rows) (product (within n (only a)) (within n (only b))) a y
+    here : (y : ℕ) → y < 64 → bit w y ≡ union (table rows) (pair n a b) a y
     here y l = rw (e, table-at rows a y (omega arith) l) (grind (arith, tells))
-    past : (y : ℕ) → 64 ≤ y → union (table rows) (product (within n (only a)) (within n (only b))) a y ≡ false
+
+    past : (y : ℕ) → 64 ≤ y → union (table rows) (pair n a b) a y ≡ false
     past y l = rw (table-far rows a y l) (grind (arith, tells))
-    others : (x y : ℕ) → (x ≡ a → ⊥) → table rows x y ≡ union (table rows) (product (within n (only a)) (within n (only b))) x y
+
+    others : (x y : ℕ) → (x ≡ a → ⊥) → table rows x y ≡ union (table rows) (pair n a b) x y
     others x y z = grind (arith, tells)
 
 -- a pair with an end past the events
-pub pair-past : (n a b : ℕ) (r : Rel) → (n ≤ a) ⊎ (n ≤ b) → r ≡ union r (product (within n (only a)) (within n (only b)))
-unfolding union product within only
+pub pair-past : (n a b : ℕ) (r : Rel) → (n ≤ a) ⊎ (n ≤ b) → r ≡ union r (pair n a b)
+unfolding union pair product within only
 pair-past n a b r h = fun-ext λ x. fun-ext λ y. grind (arith, tells)
 
 -- row a set to the targets below n

@@ -74,6 +74,10 @@ within n s a = ltb a n && s a
 unfoldable pub only : ℕ → Set
 only a x = eqb x a
 
+-- the pair of a and b alone, where both are below n
+unfoldable pub pair : ℕ → ℕ → ℕ → Rel
+pair n a b = product (within n (only a)) (within n (only b))
+
 -- r with the targets of a replaced by those of S below n; an a past n changes nothing
 unfoldable pub replaced : ℕ → ℕ → Set → Rel → Rel
 replaced n a s r x y = cond (eqb x a && ltb a n) (within n s y) (r x y)

@@ -6,7 +6,9 @@ ghost use Rattle.rows.specs.Row.{bit};
 ghost use Rattle.relations.specs.Algebra.{empty, identity, union, inter, diff, product, from, to, opt, within};
 ghost use Rattle.relations.specs.View.{rel, size};
 use crate::kinds::Relation;
-use rows::{below, has, with};
+use rows::below;
+use rows::has;
+use rows::with;
 
 impl Relation {
     // No pair, on n events, or on 64 where n is more.
@@ -14,7 +16,10 @@ impl Relation {
         ensures pairs { λ r. ⌜ rel r ≡ empty ⌝ }
         ensures events { λ r. ⌜ size r ≡ min n 64 ⌝ }
     {
-        Relation { rows: [0; 64], events: n.min(64) }
+        Relation {
+            rows: [0; 64],
+            events: n.min(64),
+        }
     }
 
     // Each of the first n events with itself.
@@ -92,7 +97,10 @@ impl Relation {
         for a in 0..self.events {
             rows[a] = row_if(has(sources, a), self.rows[a]);
         }
-        Relation { rows, events: self.events }
+        Relation {
+            rows,
+            events: self.events,
+        }
     }
 
     // The pairs that end in a set.
@@ -104,7 +112,10 @@ impl Relation {
         for a in 0..self.events {
             rows[a] = self.rows[a] & targets;
         }
-        Relation { rows, events: self.events }
+        Relation {
+            rows,
+            events: self.events,
+        }
     }
 
     // The pairs, and each event with itself.

@@ -1,10 +1,11 @@
 // Reading a relation and building one, pair by pair or row by row.
 ghost use mathlib.Core.Path.{_≡_};
 ghost use Rattle.rows.specs.Row.{bit};
-ghost use Rattle.relations.specs.Algebra.{union, product, within, only, replaced};
+ghost use Rattle.relations.specs.Algebra.{union, pair, replaced};
 ghost use Rattle.relations.specs.View.{rel, size};
 use crate::kinds::Relation;
-use rows::{below, with};
+use rows::below;
+use rows::with;
 
 impl Relation {
     // How many events there are: all pairs are of events below this number.
@@ -30,7 +31,7 @@ impl Relation {
 
     // Adds the pair of a and b. A pair with an end past the events is left out.
     pub fn add(&mut self, a: usize, b: usize)
-        ensures pairs { λ _. ⌜ rel (now (self .exit)) ≡ union (rel (now (self .entry))) (product (within (size (now (self .entry))) (only a)) (within (size (now (self .entry))) (only b))) ⌝ }
+        ensures pairs { λ _. ⌜ rel (now (self .exit)) ≡ union (rel (now (self .entry))) (pair (size (now (self .entry))) a b) ⌝ }
         ensures events { λ _. ⌜ size (now (self .exit)) ≡ size (now (self .entry)) ⌝ }
     {
         if a < self.events && b < self.events {

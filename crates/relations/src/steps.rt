@@ -8,7 +8,10 @@ ghost use Rattle.relations.specs.Chains.{DecidesChains, Acyclic};
 ghost use Rattle.relations.specs.Table.{table, On, via};
 ghost use Rattle.relations.specs.View.{rel, size};
 use crate::kinds::Relation;
-use rows::{has, lowest, with, without};
+use rows::has;
+use rows::lowest;
+use rows::with;
+use rows::without;
 
 impl Relation {
     // The targets of all events of a set.
@@ -46,7 +49,10 @@ impl Relation {
         for a in 0..self.events {
             scatter(&mut rows, a, self.rows[a]);
         }
-        Relation { rows, events: self.events }
+        Relation {
+            rows,
+            events: self.events,
+        }
     }
 
     // The closure: one step or more.
@@ -59,7 +65,10 @@ impl Relation {
         for k in 0..self.events {
             join_at(&mut rows, self.events, k);
         }
-        Relation { rows, events: self.events }
+        Relation {
+            rows,
+            events: self.events,
+        }
     }
 
     // No step, one or more.

@@ -1,4 +1,4 @@
--- The laws of one bit of a word under `|`, `&`, `!` and `1 << b`, and that words with the same bits are equal.
+-- The laws of one bit of a word under `|`, `&`, `!` and `1 << b`.
 use mathlib.Core.Path.{_≡_, refl, sym, ap, ap₂, _∙_, subst, fun-ext}
 use mathlib.Core.Bool.{Bool, true, false, not, _&&_, _||_}
 use mathlib.Core.Logic.{_⊎_, inl, inr, ⊎-elim}
@@ -78,7 +78,7 @@ bit-above : (b d : ℕ) → bit (2 ^ (b + suc d)) b ≡ false
 unfolding bit
 bit-above b d =
     ap (λ (n : ℕ). eqb (n % 2) 1)
-      (ap (λ (n : ℕ). n / 2 ^ b) (pow-add 2 b (suc d)) ∙ mul-div-cancel-left (2 ^ suc d) (pow-pos b) ∙ pow-suc 2 d)
+    (ap (λ (n : ℕ). n / 2 ^ b) (pow-add 2 b (suc d)) ∙ mul-div-cancel-left (2 ^ suc d) (pow-pos b) ∙ pow-suc 2 d)
     ∙ ap (λ (n : ℕ). eqb n 1) (mul-mod-left (2 ^ d) 2)
 
 pub bit-one : (c b : ℕ) → bit (2 ^ c) b ≡ eqb b c
@@ -86,10 +86,12 @@ bit-one c b = ⊎-elim same (⊎-elim less more) (cases-order b c)
   where
     same : b ≡ c → bit (2 ^ c) b ≡ eqb b c
     same e = subst (λ (n : ℕ). bit (2 ^ n) b ≡ eqb b n) e (bit-top b ∙ sym (eq-eqb b b refl))
+
     less : b < c → bit (2 ^ c) b ≡ eqb b c
     less h =
         let e : b + suc (c - suc b) ≡ c = omega arith in
         subst (λ (n : ℕ). bit (2 ^ n) b ≡ eqb b n) e (bit-above b (c - suc b) ∙ sym (ne-eqb b (b + suc (c - suc b)) (λ z. omega arith)))
+
     more : c < b → bit (2 ^ c) b ≡ eqb b c
     more h = bit-past (2 ^ c) b (pow-below c b h) ∙ sym (ne-eqb b c (λ z. omega arith))
 
@@ -143,8 +145,10 @@ without-bit row b l h = fun-ext λ x. bit-and row _ x ∙ ⊎-elim (inside x) (o
   where
     less : (1 * 2 ^ b) % 2 ^ 64 < 2 ^ 64
     less = mod-lt (1 * 2 ^ b) (lit< tt)
+
     inside : (x : ℕ) → x < 64 → (bit row x && bit ((2 ^ 64 - 1) - (1 * 2 ^ b) % 2 ^ 64) x) ≡ (bit row x && not (eqb x b))
     inside x k = ap (λ (t : Bool). bit row x && t) (bit-not 64 _ x less k ∙ ap not (shifted b x h))
+
     outside : (x : ℕ) → 64 ≤ x → (bit row x && bit ((2 ^ 64 - 1) - (1 * 2 ^ b) % 2 ^ 64) x) ≡ (bit row x && not (eqb x b))
     outside x k = rw (bit-outside row x l k) refl
 
@@ -159,5 +163,6 @@ without-none row b l h = fun-ext λ x. ⊎-elim (here x) (there x) (cases-eq x b
   where
     here : (x : ℕ) → x ≡ b → bit row x ≡ (bit row x && not (eqb x b))
     here x e = rw (bit-outside row x l (omega arith)) refl
+
     there : (x : ℕ) → (x ≡ b → ⊥) → bit row x ≡ (bit row x && not (eqb x b))
     there x n = rw (ne-eqb x b n) (sym (and-true (bit row x) refl))

@@ -1,17 +1,17 @@
 -- A word digit by digit: words with the same bits, the lowest bit, how many bits are set.
 use mathlib.Core.Path.{_≡_, refl, sym, ap, ap₂, _∙_, subst, fun-ext}
-use mathlib.Core.Bool.{Bool, true, false, not, _&&_, _||_}
-use mathlib.Core.Logic.{_⊎_, inl, inr, ⊎-elim}
+use mathlib.Core.Bool.{Bool, true, false, not, _&&_}
+use mathlib.Core.Logic.{⊎-elim}
 use Prim.Native.Nat.{ℕ, zero, suc, _+_, _-_, _*_, _/_, _%_, _^_, _<_, _≤_}
-use native.Mathlib.Nat.{mod-lt, div-one, div-add-mod', lt-of-lt-of-le}
+use native.Mathlib.Nat.{mod-lt, div-one, lt-of-lt-of-le}
 use native.Mathlib.Numerals.{add-one, one-add}
 use native.Mathlib.Omega.{arith}
 use lib.Dec.{eqb, ltb, lit<}
 use lib.Count.{trailingZeros, under, ones, ones-step}
-use lib.Pow.{pow-mono, shr-lt}
+use lib.Pow.{pow-mono}
 use lib.Arith.{lt-one}
-use Rattle.std.proofs.shelf.Bits.{shr-shr, shr-below, trailing-le, pow-pos, one-shl}
-use Rattle.std.proofs.shelf.Tests.{eqb-true, eqb-false, eq-eqb, ne-eqb, lt-ltb, le-ltb, ltb-true, cases-lt, cases-eq, both-ways, true≢false, false≢true, and-right, and-parts, and-from, not-true, not-from-false}
+use Rattle.std.proofs.shelf.Bits.{shr-shr, shr-below, pow-pos, one-shl}
+use Rattle.std.proofs.shelf.Tests.{eqb-false, eq-eqb, ne-eqb, lt-ltb, le-ltb, cases-lt, cases-eq, true≢false, false≢true, and-right, and-parts, and-from, not-true, not-from-false}
 use Rattle.rows.specs.Row.{Set, bit, dropping, below, count, tick, Lowest}
 use Rattle.rows.proofs.Bits.{bit-zero, bit-past, bit-ones}
 
@@ -42,9 +42,9 @@ pub same-bits : (k v w : ℕ) → v < 2 ^ k → w < 2 ^ k → ((x : ℕ) → x <
 same-bits zero v w h l f = omega arith
 same-bits (suc k) v w h l f =
     let upper : v / 2 ≡ w / 2 =
-        same-bits k (v / 2) (w / 2) (half-below k v h) (half-below k w l) (λ x m. sym (bit-half v x) ∙ f (suc x) (omega arith) ∙ bit-half w x) in
+    same-bits k (v / 2) (w / 2) (half-below k v h) (half-below k w l) (λ x m. sym (bit-half v x) ∙ f (suc x) (omega arith) ∙ bit-half w x) in
     let lower : v % 2 ≡ w % 2 =
-        digit-same (v % 2) (w % 2) (mod-lt v (lit< tt)) (mod-lt w (lit< tt)) (sym (bit-first v) ∙ f 0 (omega arith) ∙ bit-first w) in
+    digit-same (v % 2) (w % 2) (mod-lt v (lit< tt)) (mod-lt w (lit< tt)) (sym (bit-first v) ∙ f 0 (omega arith) ∙ bit-first w) in
     omega arith
 
 -- a word with no bit set is 0
@@ -81,6 +81,7 @@ lowest-is w h some = record { room = room; member = trailing-set 64 w room; firs
   where
     none : 64 ≤ trailingZeros 64 w → ⊥
     none l = some (no-bits 64 w h (λ x m. trailing-clear 64 w x (omega arith)))
+
     room : trailingZeros 64 w < 64
     room = ⊎-elim (λ l. l) (λ l. absurd (none l)) (cases-lt (trailingZeros 64 w) 64)
 
@@ -92,6 +93,7 @@ below-bits n h = fun-ext λ x. ap (λ (w : ℕ). bit (w - 1) x) (one-shl n 64 h)
   where
     inside : (x : ℕ) → x < n → bit (2 ^ n - 1) x ≡ (ltb x n && ltb x 64)
     inside x l = bit-ones n x l ∙ sym (rw (lt-ltb x n l) (lt-ltb x 64 (omega arith)))
+
     outside : (x : ℕ) → n ≤ x → bit (2 ^ n - 1) x ≡ (ltb x n && ltb x 64)
     outside x l = bit-past (2 ^ n - 1) x (omega (arith, pow-mono l, pow-pos n)) ∙ sym (rw (le-ltb x n l) refl)
 
@@ -102,6 +104,7 @@ below-all n h = fun-ext λ x. ⊎-elim (inside x) (outside x) (cases-lt x 64)
   where
     inside : (x : ℕ) → x < 64 → bit (2 ^ 64 - 1) x ≡ (ltb x n && ltb x 64)
     inside x l = bit-ones 64 x l ∙ sym (rw (lt-ltb x n (omega arith)) (lt-ltb x 64 l))
+
     outside : (x : ℕ) → 64 ≤ x → bit (2 ^ 64 - 1) x ≡ (ltb x n && ltb x 64)
     outside x l = bit-past (2 ^ 64 - 1) x (lt-of-lt-of-le (lit< tt) (pow-mono l)) ∙ sym (rw (le-ltb x 64 l) (and-right (ltb x n) false refl))
 
@@ -123,7 +126,7 @@ unfolding count ones
 ones-count zero w h = ap ones (lt-one h)
 ones-count (suc k) w h =
     ones-step w ∙ ap₂ _+_ (sym (ap tick (bit-first w) ∙ tick-digit (w % 2) (mod-lt w (lit< tt))))
-      (ones-count k (w / 2) (half-below k w h) ∙ ap (count k) (fun-ext λ x. sym (bit-half w x)))
+    (ones-count k (w / 2) (half-below k w h) ∙ ap (count k) (fun-ext λ x. sym (bit-half w x)))
     ∙ sym (count-first k (bit w))
 
 tick-mono : (x y : Bool) → (x ≡ true → y ≡ true) → tick x ≤ tick y
@@ -147,6 +150,7 @@ count-lacks (suc n) c s t f h e g = ⊎-elim top (lower (λ l. count-lacks n c s
         let sn : s n ≡ false = subst (λ (x : ℕ). s x ≡ false) z e in
         let tn : t n ≡ true = subst (λ (x : ℕ). t x ≡ true) z g in
         rw (sn, tn) (omega (arith, count-within n s t (λ x l. f x (omega arith))))
+
     lower : (c < n → count n s < count n t) → (c ≡ n → ⊥) → tick (s n) + count n s < tick (t n) + count n t
     lower rest z = let fewer : count n s < count n t = rest (omega arith) in omega (arith, tick-mono (s n) (t n) (f n (omega arith)))
 

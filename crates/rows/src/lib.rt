@@ -1,10 +1,10 @@
 // A row: a set of numbers below 64 in one 64-bit word, bit b set when b is in the set.
 // A relation on at most 64 events is kept as one such row of targets for each event.
 ghost use mathlib.Core.Path.{_≡_};
-ghost use Prim.Native.Nat.{ℕ, _≤_};
 ghost use mathlib.Core.Bool.{false};
-ghost use Rattle.rows.specs.Row.{bit, adding, dropping, below, count, Lowest};
+ghost use Prim.Native.Nat.{ℕ, _≤_};
 ghost use Rattle.std.specs.Options.{Cases};
+ghost use Rattle.rows.specs.Row.{bit, adding, dropping, below, count, Lowest};
 
 // Whether b is in the row; nothing past 63 is.
 pub fn has(row: u64, b: usize) -> bool
@@ -38,7 +38,11 @@ pub fn below(n: usize) -> u64
 pub fn lowest(row: u64) -> Option<usize>
     ensures { λ r. ⌜ Cases r ((x : ℕ) → bit row x ≡ false) (λ c. Lowest (bit row) c) ⌝ }
 {
-    if row == 0 { None } else { Some(row.trailing_zeros() as usize) }
+    if row == 0 {
+        None
+    } else {
+        Some(row.trailing_zeros() as usize)
+    }
 }
 
 // How many numbers are in the row.

@@ -47,6 +47,7 @@ row-more ws x k a w h before here b l = ⊎-elim same other (cases-eq b a)
   where
     same : b ≡ a → bit (getD (set ws (64 * k + a) w) (64 * k + b) 0) ≡ targets x (k + 1) b
     same e = rw (e, getD-set-same ws (64 * k + a) w 0 h) here
+
     other : (b ≡ a → ⊥) → bit (getD (set ws (64 * k + a) w) (64 * k + b) 0) ≡ targets x (k + 1) b
     other n = ap bit (getD-set-other ws (64 * k + a) (64 * k + b) w 0 (λ e. n (omega arith))) ∙ before b (omega arith)
 
@@ -63,6 +64,7 @@ relations-more x ws vs k n few before here same m a h l = ⊎-elim at under (cas
   where
     at : m ≡ k → bit (getD vs (64 * m + a) 0) ≡ targets x (m + 1) a
     at e = rw e (here a l)
+
     under : (m ≡ k → ⊥) → bit (getD vs (64 * m + a) 0) ≡ targets x (m + 1) a
     under ne = ap bit (same (64 * m + a) (omega arith)) ∙ before m a (omega arith) l
 
@@ -92,6 +94,7 @@ copied-ties x ws all r a b = ⊎-elim inside outside (cases-lt a (count x))
         ∙ ap (λ (k : ℕ). ltb a (count x) && elim (relation-of k) as (λ _. Bool) [ None ↦ false | Some q ↦ bounded x .ties q a b ]) m
         ∙ ap (λ (o : Option Relation). ltb a (count x) && elim o as (λ _. Bool) [ None ↦ false | Some q ↦ bounded x .ties q a b ]) (relation-found r)
         ∙ twice (ltb a (count x)) (ltb b 64 && x .ties r a b)
+
     outside : count x ≤ a → (ltb a (count x) && bit (getD ws (word-at (relation-number r) a) 0) b) ≡ bounded x .ties r a b
     outside h = rw (le-ltb a (count x) h) refl
 
@@ -101,7 +104,7 @@ pub copied-execution : (x : Execution) (es : List Event) (ws : List ℕ) (n : �
 copied-execution x es ws n e events rows =
     ap₂ (λ l k. record { events = l; ties = λ r a b. ltb a k && bit (getD ws (word-at (relation-number r) a) 0) b }) events e
     ∙ ap (λ (ts : Ties). record { events = x .events; ties = ts })
-        (fun-ext λ r. fun-ext λ a. fun-ext λ b. copied-ties x ws (subst (λ (k : ℕ). RowsCopied x 6 k ws) e rows) r a b)
+    (fun-ext λ r. fun-ext λ a. fun-ext λ b. copied-ties x ws (subst (λ (k : ℕ). RowsCopied x 6 k ws) e rows) r a b)
 
 -- a copy has as many events as it counts, at most 64
 pub held-count : (s : Snapshot) → count (execution s) ≡ s .count

@@ -51,11 +51,11 @@ cut-shown number e x n a h = fun-ext λ b. go (relation-of n) refl b
   where
     go : (o : Option Relation) → relation-of n ≡ o → (b : ℕ)
         → _≡_ {A = Bool} (elim o [ None ↦ false | Some r ↦ ltb a (count x) && (ltb b 64 && x .ties r a b) ])
-          (elim o [ None ↦ false | Some r ↦ ltb a (count x) && (ltb b 64 && (x .ties r a b && not (hides number e (relation-number r) a))) ])
+        (elim o [ None ↦ false | Some r ↦ ltb a (count x) && (ltb b 64 && (x .ties r a b && not (hides number e (relation-number r) a))) ])
     go None q b = refl
     go (Some r) q b =
         ap (λ (t : Bool). ltb a (count x) && (ltb b 64 && t))
-          (sym (rw (numbered-found relation-number relations n r q, ← h) (and-true (x .ties r a b) refl)))
+        (sym (rw (numbered-found relation-number relations n r q, ← h) (and-true (x .ties r a b) refl)))
 
 -- ---- lowered
 

@@ -16,9 +16,10 @@ use Rattle.sources.specs.Source.{targets}
 
 -- the execution that is held: the records below the count, and their words
 abbrev pub execution : Snapshot → Execution
-execution s = record
-    { events = take (s .count) (s .events)
-    ; ties = λ r a b. ltb a (s .count) && bit (getD (s .words) (word-at (relation-number r) a) 0) b }
+execution s = record {
+  events = take (s .count) (s .events);
+  ties = λ r a b. ltb a (s .count) && bit (getD (s .words) (word-at (relation-number r) a) 0) b;
+}
 
 -- a copy of just that execution, or none where it has more than 64 events
 abbrev pub Copies : Execution → Option Snapshot → Type 0

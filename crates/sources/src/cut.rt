@@ -38,7 +38,8 @@ impl<S> Cut<S> {
     fn is_hidden(&self, relation: u32, event: usize) -> bool
         ensures { λ r. ⌜ r ≡ hides (now (self .entry) .relation) (now (self .entry) .event) relation event ⌝ }
     {
-        let dependency = Relation::Addr.number() as u32 <= self.relation && self.relation <= Relation::Ctrl.number() as u32;
+        let dependency = Relation::Addr.number() as u32 <= self.relation
+            && self.relation <= Relation::Ctrl.number() as u32;
         dependency && relation == self.relation && event == self.event
     }
 }

@@ -40,7 +40,11 @@ impl<S> Lowered<S> {
         ensures { λ r. ⌜ r ≡ cond (ltb number 64) (lower (getD (now (self .entry) .sorts) number 0) event) event ⌝ }
     {
         if number < 64 && is_weaker(self.sorts[number], event.sort) {
-            Event { thread: event.thread, sort: self.sorts[number], place: event.place }
+            Event {
+                thread: event.thread,
+                sort: self.sorts[number],
+                place: event.place,
+            }
         } else {
             event
         }

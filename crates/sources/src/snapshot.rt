@@ -26,7 +26,11 @@ impl Snapshot {
         copy_events(source, count, &mut events);
         let mut words = [0u64; 384];
         copy_rows(source, count, &mut words);
-        Some(Snapshot { count, events, words })
+        Some(Snapshot {
+            count,
+            events,
+            words,
+        })
     }
 
     // How many events there are.
@@ -40,14 +44,22 @@ impl Snapshot {
     pub fn event(&self, number: usize) -> Event
         ensures { λ r. ⌜ r ≡ event-at (execution (now (self .entry))) number ⌝ }
     {
-        if number < self.count { self.events[number] } else { Event::UNUSED }
+        if number < self.count {
+            self.events[number]
+        } else {
+            Event::UNUSED
+        }
     }
 
     // The events that a relation ties an event to; none past the last one.
     pub fn row(&self, relation: Relation, event: usize) -> u64
         ensures { λ r. ⌜ bit r ≡ execution (now (self .entry)) .ties relation event ⌝ }
     {
-        if event < self.count { self.words[word_of(relation, event)] } else { 0 }
+        if event < self.count {
+            self.words[word_of(relation, event)]
+        } else {
+            0
+        }
     }
 }
 

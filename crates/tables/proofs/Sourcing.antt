@@ -58,10 +58,10 @@ pub row-some : (n : ℕ) (rs : List Event) (ws : List ℕ) (number : ℕ) (r : R
 unfolding targets ties-of
 row-some n rs ws number r a w known h is =
     fun-ext λ b.
-      ap (λ (s : Set). s b) is
-      ∙ twice (ltb a 64) (ltb b 64) (bit (getD ws (word-at (relation-number r) a) 0) b)
-      ∙ ap (λ (u : Bool). u && (ltb b 64 && ties-of ws r a b)) (sym (lt-ltb a (length (take n rs)) h))
-      ∙ ap (λ (o : Option Relation). elim o as (λ _. Bool) [ None ↦ false | Some q ↦ ltb a (length (take n rs)) && (ltb b 64 && ties-of ws q a b) ]) known
+    ap (λ (s : Set). s b) is
+    ∙ twice (ltb a 64) (ltb b 64) (bit (getD ws (word-at (relation-number r) a) 0) b)
+    ∙ ap (λ (u : Bool). u && (ltb b 64 && ties-of ws r a b)) (sym (lt-ltb a (length (take n rs)) h))
+    ∙ ap (λ (o : Option Relation). elim o as (λ _. Bool) [ None ↦ false | Some q ↦ ltb a (length (take n rs)) && (ltb b 64 && ties-of ws q a b) ]) known
 
 pub row-past : (n : ℕ) (rs : List Event) (ws : List ℕ) (number a : ℕ) → length (take n rs) ≤ a → bit 0 ≡ targets (held-execution n rs ws) number a
 unfolding targets
@@ -75,4 +75,4 @@ pub row-none : (n : ℕ) (rs : List Event) (ws : List ℕ) (number a : ℕ) → 
 unfolding targets
 row-none n rs ws number a e =
     fun-ext λ b. bit-zero b
-      ∙ ap (λ (o : Option Relation). elim o as (λ _. Bool) [ None ↦ false | Some q ↦ ltb a (length (take n rs)) && (ltb b 64 && ties-of ws q a b) ]) e
+    ∙ ap (λ (o : Option Relation). elim o as (λ _. Bool) [ None ↦ false | Some q ↦ ltb a (length (take n rs)) && (ltb b 64 && ties-of ws q a b) ]) e

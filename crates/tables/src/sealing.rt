@@ -16,14 +16,24 @@ use wellformed::check;
 
 impl OpenCase {
     // Seals a well-formed case, or hands it back with its first fault.
-    pub fn seal<'a>(self, events: &'a [Event], ties: &'a [u64]) -> Result<SealedCase, (OpenCase, Fault)>
+    pub fn seal<'a>(
+        self,
+        events: &'a [Event],
+        ties: &'a [u64],
+    ) -> Result<SealedCase, (OpenCase, Fault)>
         ensures { λ r. ⌜ Seals self (now (events .entry)) (now (ties .entry)) r ⌝ }
     {
         if short(events.len(), ties.len()) {
             return Err((self, too_short()));
         }
         let count = self.count;
-        match check(&TableSource { count, events, ties }) {
+        match check(
+            &TableSource {
+                count,
+                events,
+                ties,
+            },
+        ) {
             Ok(_) => Ok(SealedCase { count }),
             Err(found) => Err((self, found)),
         }
@@ -45,7 +55,11 @@ impl SealedCase {
         if short(events.len(), ties.len()) {
             return Err(too_short());
         }
-        Ok(TableSource { count: self.count, events, ties })
+        Ok(TableSource {
+            count: self.count,
+            events,
+            ties,
+        })
     }
 }
 
@@ -53,5 +67,9 @@ impl SealedCase {
 fn too_short() -> Fault
     ensures { λ r. ⌜ r ≡ check-refusal TooShort 0 ⌝ }
 {
-    Fault { cause: Cause::TooShort, layer: Layer::Check, place: 0 }
+    Fault {
+        cause: Cause::TooShort,
+        layer: Layer::Check,
+        place: 0,
+    }
 }

@@ -27,7 +27,11 @@ pub impl<'a> CaseSource for TableSource<'a> as TableCase {
         let Some(known) = Relation::of(relation) else {
             return 0;
         };
-        if event < self.count() { word_of(self.ties, known, event) } else { 0 }
+        if event < self.count() {
+            word_of(self.ties, known, event)
+        } else {
+            0
+        }
     }
 }
 

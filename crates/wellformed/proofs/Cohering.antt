@@ -34,6 +34,7 @@ module _ (r t : Rel) (n a : ℕ) (s : Set) (room : a < n) (row : s ≡ t a) (end
     where
       same : x ≡ a → cond (eqb x a && ltb a n) (within n s y) (r x y) ≡ (ltb x (a + 1) && t x y)
       same q = rw (q, eq-eqb a a refl, lt-ltb a n room, lt-ltb a (a + 1) (omega arith)) (here y)
+
       other : (x ≡ a → ⊥) → cond (eqb x a && ltb a n) (within n s y) (r x y) ≡ (ltb x (a + 1) && t x y)
       other q = rw (ne-eqb x a q, ltb-next x a q) (before x y)
 

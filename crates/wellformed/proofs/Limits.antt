@@ -41,13 +41,13 @@ module _ (x : Execution) (inside : (a b : ℕ) → Tied x Rmw a b → b < 64) wh
       let at-c = or-parts (any c (λ k. x .ties Rmw k c)) (ltb c c && any 64 (x .ties Rmw c)) (parts .0) in
       let at-d = or-parts (any c (λ k. x .ties Rmw k d)) (ltb d c && any 64 (x .ties Rmw d)) (rest .0) in
       ⊎-elim
-        (λ p. ⊎-elim (λ q. omega arith)
-          (λ q. let d-is : d ≡ a = omega arith in
-            both-ways _ (at-d .1) (and-from _ _ (lt-ltb d c (omega arith)) (any-from 64 b (x .ties Rmw d) (inside a b t) (subst (λ (k : ℕ). x .ties Rmw k b ≡ true) (sym d-is) t)))) v)
-        (λ p. ⊎-elim
-          (λ q. let b-is : b ≡ c = omega arith in both-ways _ (at-c .0) (any-from c a (λ k. x .ties Rmw k c) h (subst (λ (k : ℕ). x .ties Rmw a k ≡ true) b-is t)))
-          (λ q. let b-is : b ≡ d = omega arith in both-ways _ (at-d .0) (any-from c a (λ k. x .ties Rmw k d) h (subst (λ (k : ℕ). x .ties Rmw a k ≡ true) b-is t))) v)
-        s
+      (λ p. ⊎-elim (λ q. omega arith)
+      (λ q. let d-is : d ≡ a = omega arith in
+      both-ways _ (at-d .1) (and-from _ _ (lt-ltb d c (omega arith)) (any-from 64 b (x .ties Rmw d) (inside a b t) (subst (λ (k : ℕ). x .ties Rmw k b ≡ true) (sym d-is) t)))) v)
+      (λ p. ⊎-elim
+      (λ q. let b-is : b ≡ c = omega arith in both-ways _ (at-c .0) (any-from c a (λ k. x .ties Rmw k c) h (subst (λ (k : ℕ). x .ties Rmw a k ≡ true) b-is t)))
+      (λ q. let b-is : b ≡ d = omega arith in both-ways _ (at-d .0) (any-from c a (λ k. x .ties Rmw k d) h (subst (λ (k : ℕ). x .ties Rmw a k ≡ true) b-is t))) v)
+      s
 
   -- of two rmw ties from one event the later one is one too many
   row-clash : (a b d : ℕ) → b < d → Tied x Rmw a b → one-too-many x Rmw a d ≡ false → ⊥
@@ -64,8 +64,8 @@ module _ (x : Execution) (inside : (a b : ℕ) → Tied x Rmw a b → b < 64) wh
       → (a b c d e : ℕ) → Tied x Rmw a b → Tied x Rmw c d → Stands e a b → Stands e c d → (a ≡ c) × (b ≡ d)
   one-rmw-from fine a b c d e t u s v =
       ⊎-elim (λ q. (q, same-row fine a b d t (subst (λ (k : ℕ). x .ties Rmw k d ≡ true) (sym q) u)))
-        (⊎-elim (λ h. absurd (rmw-clash a b c d e h t u s v (fine c d u))) (λ h. absurd (rmw-clash c d a b e h u t v s (fine a b t))))
-        (cases-order a c)
+      (⊎-elim (λ h. absurd (rmw-clash a b c d e h t u s v (fine c d u))) (λ h. absurd (rmw-clash c d a b e h u t v s (fine a b t))))
+      (cases-order a c)
 
   pub rmw-fine : ((a b c d e : ℕ) → Tied x Rmw a b → Tied x Rmw c d → Stands e a b → Stands e c d → (a ≡ c) × (b ≡ d))
       → (a b : ℕ) → Tied x Rmw a b → one-too-many x Rmw a b ≡ false
@@ -74,14 +74,16 @@ module _ (x : Execution) (inside : (a b : ℕ) → Tied x Rmw a b → b < 64) wh
       at-a : stands-before x a a ≡ true → ⊥
       at-a h =
           ⊎-elim (λ k. let c = any-some a (λ k. x .ties Rmw k a) k in omega (arith, c .1, one (c .0) a a b a (c .2) t (inr refl) (inl refl) .0))
-            (λ k. omega (arith, ltb-true a a (and-parts (ltb a a) (any 64 (x .ties Rmw a)) k .0))) (or-cases _ _ h)
+          (λ k. omega (arith, ltb-true a a (and-parts (ltb a a) (any 64 (x .ties Rmw a)) k .0))) (or-cases _ _ h)
+
       at-b : stands-before x a b ≡ true → ⊥
       at-b h =
           ⊎-elim (λ k. let c = any-some a (λ k. x .ties Rmw k b) k in omega (arith, c .1, one (c .0) b a b b (c .2) t (inr refl) (inr refl) .0))
-            (λ k.
-              let l : (ltb b a ≡ true) × (any 64 (x .ties Rmw b) ≡ true) = and-parts (ltb b a) (any 64 (x .ties Rmw b)) k in
-              let d : (c : ℕ) × (c < 64) × (x .ties Rmw b c ≡ true) = any-some 64 (x .ties Rmw b) (l .1) in
-              omega (arith, ltb-true b a (l .0), one b (d .0) a b b (d .2) t (inl refl) (inr refl) .0))
-            (or-cases _ _ h)
+          (λ k.
+          let l : (ltb b a ≡ true) × (any 64 (x .ties Rmw b) ≡ true) = and-parts (ltb b a) (any 64 (x .ties Rmw b)) k in
+          let d : (c : ℕ) × (c < 64) × (x .ties Rmw b c ≡ true) = any-some 64 (x .ties Rmw b) (l .1) in
+          omega (arith, ltb-true b a (l .0), one b (d .0) a b b (d .2) t (inl refl) (inr refl) .0))
+          (or-cases _ _ h)
+
       in-row : any b (x .ties Rmw a) ≡ true → ⊥
       in-row h = let d = any-some b (x .ties Rmw a) h in omega (arith, d .1, one a (d .0) a b a (d .2) t (inl refl) (inl refl) .1)

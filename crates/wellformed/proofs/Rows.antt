@@ -27,8 +27,8 @@ any-clear s (suc n) h = or-from (s n) (any n s) (h n (omega arith)) (any-clear s
 pub below-lowest : (s : Set) (c b : ℕ) → Lowest s c → ltb c b ≡ any b s
 below-lowest s c b low =
     ⊎-elim (λ h. lt-ltb c b h ∙ sym (any-from b c s h (low .member)))
-      (λ h. le-ltb c b h ∙ sym (any-clear s b (λ i l. low .first i (omega arith))))
-      (cases-lt c b)
+    (λ h. le-ltb c b h ∙ sym (any-clear s b (λ i l. low .first i (omega arith))))
+    (cases-lt c b)
 
 pub below-nothing : (s : Set) (b : ℕ) → ((i : ℕ) → s i ≡ false) → false ≡ any b s
 below-nothing s b none = sym (any-clear s b (λ i l. none i))

@@ -71,25 +71,29 @@ ltb-next d a q =
     ⊎-elim (λ h. lt-ltb d (a + 1) (omega arith) ∙ sym (lt-ltb d a h)) (λ h. le-ltb d (a + 1) (omega arith) ∙ sym (le-ltb d a h)) (cases-lt d a)
 
 pub before-none : (x : Execution) (r : Relation) → Before x r 0 0 0
-before-none x r = record
-    { led-to = λ e. bit-zero e ∙ sym (any-none _)
-    ; come-from = λ e. bit-zero e ∙ sym (rw (le-ltb e 0 (omega arith)) refl) }
+before-none x r = record {
+  led-to = λ e. bit-zero e ∙ sym (any-none _);
+  come-from = λ e. bit-zero e ∙ sym (rw (le-ltb e 0 (omega arith)) refl);
+}
 
 pub before-more : (x : Execution) (r : Relation) (a targets sources row next : ℕ) (tied : Bool) → a < 64 → bit row ≡ x .ties r a → tied ≡ any 64 (bit row)
     → bit next ≡ source-if tied a (bit sources) → Before x r a targets sources → Before x r (a + 1) (bitOr targets row) next
 unfolding adding
-before-more x r a targets sources row next tied room e t n w = record
-    { led-to = λ d. gathered-more targets row d a (λ c. x .ties r c d) (w .led-to d) (ap (λ (s : Set). s d) e)
-    ; come-from = λ d. ap (λ (s : Set). s d) n ∙ ⊎-elim (here d) (there d) (cases-eq d a) }
+before-more x r a targets sources row next tied room e t n w = record {
+  led-to = λ d. gathered-more targets row d a (λ c. x .ties r c d) (w .led-to d) (ap (λ (s : Set). s d) e);
+  come-from = λ d. ap (λ (s : Set). s d) n ∙ ⊎-elim (here d) (there d) (cases-eq d a);
+}
   where
     is-tied : tied ≡ any 64 (x .ties r a)
     is-tied = t ∙ ap (any 64) e
+
     here : (d : ℕ) → d ≡ a → source-if tied a (bit sources) d ≡ (ltb d (a + 1) && any 64 (x .ties r d))
     here d q = rw (q, lt-ltb a (a + 1) (omega arith), ← is-tied) (go tied)
       where
         go : (u : Bool) → source-if u a (bit sources) a ≡ u
         go true = rw (eq-eqb a a refl, lt-ltb a 64 room) (or-true (bit sources a))
         go false = w .come-from a ∙ rw (le-ltb a a (omega arith)) refl
+
     there : (d : ℕ) → (d ≡ a → ⊥) → source-if tied a (bit sources) d ≡ (ltb d (a + 1) && any 64 (x .ties r d))
     there d q = go tied ∙ w .come-from d ∙ ap (λ (u : Bool). u && any 64 (x .ties r d)) (sym (ltb-next d a q))
       where

@@ -4,6 +4,7 @@ ghost use Rattle.sources.specs.Snapshot.{execution};
 ghost use Rattle.sources.specs.Source.{bounded};
 ghost use Rattle.wellformed.specs.Faults.{first-fault};
 ghost use Rattle.wellformed.specs.WellFormed.{Checked, Inside};
+
 mod locks;
 mod places;
 mod ties;

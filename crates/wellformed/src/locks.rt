@@ -40,7 +40,11 @@ fn thread_fault(case: &Snapshot, thread: usize) -> Option<Fault>
         outermost = outermost_after(event, thread, depth, outermost, i);
         depth = depth_after(event, thread, depth);
     }
-    if depth > 0 { Some(fault(Cause::LocksNotPaired, outermost)) } else { None }
+    if depth > 0 {
+        Some(fault(Cause::LocksNotPaired, outermost))
+    } else {
+        None
+    }
 }
 
 // An unlock of the thread where no lock is open.
@@ -48,7 +52,11 @@ fn unlock_fault(event: Event, thread: usize, depth: usize, i: usize) -> Option<F
     requires { ⌜ i < 65 ⌝ }
     ensures { λ r. ⌜ r ≡ fault-if (unlock-of thread event && eqb depth 0) LocksNotPaired i ⌝ }
 {
-    if is_unlock(event, thread) && depth == 0 { Some(fault(Cause::LocksNotPaired, i)) } else { None }
+    if is_unlock(event, thread) && depth == 0 {
+        Some(fault(Cause::LocksNotPaired, i))
+    } else {
+        None
+    }
 }
 
 // How many locks are open after an event.
@@ -59,14 +67,22 @@ fn depth_after(event: Event, thread: usize, depth: usize) -> usize
     if is_lock(event, thread) {
         return depth + 1;
     }
-    if is_unlock(event, thread) { depth.saturating_sub(1) } else { depth }
+    if is_unlock(event, thread) {
+        depth.saturating_sub(1)
+    } else {
+        depth
+    }
 }
 
 // The outermost lock that was opened last, after event i.
 fn outermost_after(event: Event, thread: usize, depth: usize, outermost: usize, i: usize) -> usize
     ensures { λ r. ⌜ r ≡ cond (lock-of thread event && eqb depth 0) i outermost ⌝ }
 {
-    if is_lock(event, thread) && depth == 0 { i } else { outermost }
+    if is_lock(event, thread) && depth == 0 {
+        i
+    } else {
+        outermost
+    }
 }
 
 fn is_lock(event: Event, thread: usize) -> bool

@@ -34,7 +34,11 @@ fn initial_fault(case: &Snapshot, place: usize) -> Option<Fault>
     requires { ⌜ place < 65 ⌝ }
     ensures { λ r. ⌜ r ≡ initial-first (execution (now (case .entry))) place ⌝ }
 {
-    if is_used(case, place) && initial_writes(case, place) != 1 { Some(fault(Cause::InitialWrites, place)) } else { None }
+    if is_used(case, place) && initial_writes(case, place) != 1 {
+        Some(fault(Cause::InitialWrites, place))
+    } else {
+        None
+    }
 }
 
 // Whether some event reads or writes the place.

@@ -21,7 +21,11 @@ pub(crate) fn fault(cause: Cause, place: usize) -> Fault
     requires { ⌜ place < 65 ⌝ }
     ensures { λ r. ⌜ Some r ≡ fault-if true cause place ⌝ }
 {
-    Fault { cause, layer: Layer::Check, place: place as u32 }
+    Fault {
+        cause,
+        layer: Layer::Check,
+        place: place as u32,
+    }
 }
 
 // The first event that is out of range.
@@ -40,7 +44,11 @@ fn event_fault(case: &Snapshot, i: usize) -> Option<Fault>
     requires { ⌜ i < 64 ⌝ }
     ensures { λ r. ⌜ r ≡ range-fault (execution (now (case .entry))) i ⌝ }
 {
-    if case.event(i).in_range() { None } else { Some(fault(Cause::OutOfRange, i)) }
+    if case.event(i).in_range() {
+        None
+    } else {
+        Some(fault(Cause::OutOfRange, i))
+    }
 }
 
 // The first tie at fault, by relation, first event, second event.
@@ -85,11 +93,21 @@ fn relation_fault(case: &Snapshot, relation: Relation) -> Option<Fault>
 fn source_if(tied: bool, sources: u64, a: usize) -> u64
     ensures { λ r. ⌜ bit r ≡ source-if tied a (bit sources) ⌝ }
 {
-    if tied { rows::with(sources, a) } else { sources }
+    if tied {
+        rows::with(sources, a)
+    } else {
+        sources
+    }
 }
 
 // The first tie from an event at fault.
-fn row_fault(case: &Snapshot, relation: Relation, a: usize, targets: u64, sources: u64) -> Option<Fault>
+fn row_fault(
+    case: &Snapshot,
+    relation: Relation,
+    a: usize,
+    targets: u64,
+    sources: u64,
+) -> Option<Fault>
     requires { ⌜ a < count (execution (now case)) ⌝ ∗ ⌜ Before (execution (now case)) relation a targets sources ⌝ }
     ensures { λ r. ⌜ r ≡ row-first (execution (now (case .entry))) relation a ⌝ }
 {
@@ -116,7 +134,11 @@ fn pair_fault(case: &Snapshot, relation: Relation, a: usize, b: usize, over: boo
     if !relation.fits(a, case.event(a), b, case.event(b)) {
         return Some(fault(Cause::DoesNotFit, a));
     }
-    if over { Some(fault(Cause::OverLimit, b)) } else { None }
+    if over {
+        Some(fault(Cause::OverLimit, b))
+    } else {
+        None
+    }
 }
 
 // Whether the tie from a to b is one too many, given the ends of the ties from the events before a, and the row of a.
@@ -161,7 +183,11 @@ fn read_fault(case: &Snapshot, b: usize, given: u64) -> Option<Fault>
     requires { ⌜ b < 64 ⌝ ∗ ⌜ ((e : ℕ) → bit given e ≡ any (count (execution (now case))) (λ a. execution (now case) .ties Rf a e)) ⌝ }
     ensures { λ r. ⌜ r ≡ read-first (execution (now (case .entry))) b ⌝ }
 {
-    if case.event(b).is_read() && !rows::has(given, b) { Some(fault(Cause::ReadWithoutRf, b)) } else { None }
+    if case.event(b).is_read() && !rows::has(given, b) {
+        Some(fault(Cause::ReadWithoutRf, b))
+    } else {
+        None
+    }
 }
 
 // The events that a relation leads to.

@@ -21,11 +21,19 @@ use tables::source::TableCase;
 use wellformed::check as check_case;
 
 fn event(thread: u8, sort: Sort, place: u8) -> Event {
-    Event { thread, sort: sort.number(), place }
+    Event {
+        thread,
+        sort: sort.number(),
+        place,
+    }
 }
 
 fn fault(cause: Cause, place: u32) -> Fault {
-    Fault { cause, layer: Layer::Check, place }
+    Fault {
+        cause,
+        layer: Layer::Check,
+        place,
+    }
 }
 
 // What the check answers of a source, without the copy.
@@ -40,23 +48,76 @@ fn checked<S: CaseSource>(source: &S) -> Result<(), Fault> {
 #[test]
 fn too_many_events() -> Result<(), Fail> {
     let fence = event(1, Sort::Blank, 0);
-    check_eq(checked(&Repeated { event: fence, count: 0 }), Ok(()))?;
-    check_eq(checked(&Repeated { event: fence, count: 64 }), Ok(()))?;
-    check_eq(checked(&Repeated { event: fence, count: 65 }), Err(fault(Cause::TooManyEvents, 64)))?;
-    check_eq(checked(&Repeated { event: fence, count: 1000 }), Err(fault(Cause::TooManyEvents, 64)))?;
-    check_eq(checked(&Repeated { event: event(9, Sort::Blank, 0), count: 65 }), Err(fault(Cause::TooManyEvents, 64)))
+    check_eq(
+        checked(
+            &Repeated {
+                event: fence,
+                count: 0,
+            },
+        ),
+        Ok(()),
+    )?;
+    check_eq(
+        checked(
+            &Repeated {
+                event: fence,
+                count: 64,
+            },
+        ),
+        Ok(()),
+    )?;
+    check_eq(
+        checked(
+            &Repeated {
+                event: fence,
+                count: 65,
+            },
+        ),
+        Err(fault(Cause::TooManyEvents, 64)),
+    )?;
+    check_eq(
+        checked(
+            &Repeated {
+                event: fence,
+                count: 1000,
+            },
+        ),
+        Err(fault(Cause::TooManyEvents, 64)),
+    )?;
+    check_eq(
+        checked(
+            &Repeated {
+                event: event(9, Sort::Blank, 0),
+                count: 65,
+            },
+        ),
+        Err(fault(Cause::TooManyEvents, 64)),
+    )
 }
 
-fn enter_all(case: &mut OpenCase, events: &mut [Event], ties: &[u64], all: &[Event]) -> Result<(), Fail> {
+fn enter_all(
+    case: &mut OpenCase,
+    events: &mut [Event],
+    ties: &[u64],
+    all: &[Event],
+) -> Result<(), Fail> {
     for e in all {
         check(case.enter(events, ties, *e).is_ok())?;
     }
     Ok(())
 }
 
-fn tie_all(case: &OpenCase, events: &[Event], ties: &mut [u64], pairs: &[(Relation, u32, u32)]) -> Result<(), Fail> {
+fn tie_all(
+    case: &OpenCase,
+    events: &[Event],
+    ties: &mut [u64],
+    pairs: &[(Relation, u32, u32)],
+) -> Result<(), Fail> {
     for (relation, first, second) in pairs {
-        check_eq(case.tie(events, ties, relation.number() as u32, *first, *second), Ok(()))?;
+        check_eq(
+            case.tie(events, ties, relation.number() as u32, *first, *second),
+            Ok(()),
+        )?;
     }
     Ok(())
 }
@@ -92,8 +153,14 @@ fn read(thread: u8, place: u8) -> Event {
 // A read without rf, by number, and before the faults of places and locks.
 #[test]
 fn reads() -> Result<(), Fail> {
-    check_eq(seal(&[initial(1), read(1, 1)], &[(Relation::Rf, 0, 1)])?, Ok(()))?;
-    check_eq(seal(&[initial(1), read(1, 1)], &[])?, Err(fault(Cause::ReadWithoutRf, 1)))?;
+    check_eq(
+        seal(&[initial(1), read(1, 1)], &[(Relation::Rf, 0, 1)])?,
+        Ok(()),
+    )?;
+    check_eq(
+        seal(&[initial(1), read(1, 1)], &[])?,
+        Err(fault(Cause::ReadWithoutRf, 1)),
+    )?;
     let all = [event(1, Sort::RcuLock, 0), read(1, 2), read(1, 1)];
     check_eq(seal(&all, &[])?, Err(fault(Cause::ReadWithoutRf, 1)))
 }
@@ -101,20 +168,45 @@ fn reads() -> Result<(), Fail> {
 // No initial write, two of them, and the lowest place first.
 #[test]
 fn initial_writes() -> Result<(), Fail> {
-    check_eq(seal(&[write(1, 3)], &[])?, Err(fault(Cause::InitialWrites, 3)))?;
-    check_eq(seal(&[initial(16), initial(16)], &[])?, Err(fault(Cause::InitialWrites, 16)))?;
-    check_eq(seal(&[write(1, 9), write(1, 4), initial(9), initial(9)], &[])?, Err(fault(Cause::InitialWrites, 4)))
+    check_eq(
+        seal(&[write(1, 3)], &[])?,
+        Err(fault(Cause::InitialWrites, 3)),
+    )?;
+    check_eq(
+        seal(&[initial(16), initial(16)], &[])?,
+        Err(fault(Cause::InitialWrites, 16)),
+    )?;
+    check_eq(
+        seal(&[write(1, 9), write(1, 4), initial(9), initial(9)], &[])?,
+        Err(fault(Cause::InitialWrites, 4)),
+    )
 }
 
 // Coherence that leaves two writes unordered, and coherence with a cycle; by place.
 #[test]
 fn coherence() -> Result<(), Fail> {
     let all = [initial(1), write(1, 1), write(2, 1)];
-    check_eq(seal(&all, &[(Relation::Co, 0, 1), (Relation::Co, 1, 2)])?, Ok(()))?;
-    check_eq(seal(&all, &[(Relation::Co, 0, 1), (Relation::Co, 0, 2)])?, Err(fault(Cause::CoherenceNotTotal, 1)))?;
-    let cycle = [(Relation::Co, 0, 1), (Relation::Co, 1, 2), (Relation::Co, 2, 1)];
+    check_eq(
+        seal(&all, &[(Relation::Co, 0, 1), (Relation::Co, 1, 2)])?,
+        Ok(()),
+    )?;
+    check_eq(
+        seal(&all, &[(Relation::Co, 0, 1), (Relation::Co, 0, 2)])?,
+        Err(fault(Cause::CoherenceNotTotal, 1)),
+    )?;
+    let cycle = [
+        (Relation::Co, 0, 1),
+        (Relation::Co, 1, 2),
+        (Relation::Co, 2, 1),
+    ];
     check_eq(seal(&all, &cycle)?, Err(fault(Cause::CoherenceNotTotal, 1)))?;
-    let two = [initial(2), write(1, 2), initial(1), write(1, 1), event(1, Sort::RcuUnlock, 0)];
+    let two = [
+        initial(2),
+        write(1, 2),
+        initial(1),
+        write(1, 1),
+        event(1, Sort::RcuUnlock, 0),
+    ];
     check_eq(seal(&two, &[])?, Err(fault(Cause::CoherenceNotTotal, 1)))
 }
 
@@ -123,17 +215,41 @@ fn coherence() -> Result<(), Fail> {
 fn locks() -> Result<(), Fail> {
     let lock = event(1, Sort::RcuLock, 0);
     let unlock = event(1, Sort::RcuUnlock, 0);
-    check_eq(seal(&[lock, lock, unlock, unlock, lock, unlock], &[])?, Ok(()))?;
-    check_eq(seal(&[lock, unlock, unlock, lock], &[])?, Err(fault(Cause::LocksNotPaired, 2)))?;
-    check_eq(seal(&[lock, unlock, lock, lock, unlock], &[])?, Err(fault(Cause::LocksNotPaired, 2)))?;
-    check_eq(seal(&[event(2, Sort::RcuUnlock, 0), lock], &[])?, Err(fault(Cause::LocksNotPaired, 1)))
+    check_eq(
+        seal(&[lock, lock, unlock, unlock, lock, unlock], &[])?,
+        Ok(()),
+    )?;
+    check_eq(
+        seal(&[lock, unlock, unlock, lock], &[])?,
+        Err(fault(Cause::LocksNotPaired, 2)),
+    )?;
+    check_eq(
+        seal(&[lock, unlock, lock, lock, unlock], &[])?,
+        Err(fault(Cause::LocksNotPaired, 2)),
+    )?;
+    check_eq(
+        seal(&[event(2, Sort::RcuUnlock, 0), lock], &[])?,
+        Err(fault(Cause::LocksNotPaired, 1)),
+    )
 }
 
 // A sealed case of five events in its tables: an initial write, two reads and two writes of place 1 in thread 1.
 fn sealed(events: &mut [Event], ties: &mut [u64]) -> Result<SealedCase, Fail> {
     let mut case = OpenCase::open(events, ties)?;
-    enter_all(&mut case, events, ties, &[initial(1), read(1, 1), read(1, 1), write(1, 1), write(1, 1)])?;
-    let pairs = [(Relation::Rf, 0, 1), (Relation::Rf, 0, 2), (Relation::Co, 0, 3), (Relation::Co, 3, 4), (Relation::Rmw, 1, 3), (Relation::Ctrl, 1, 4)];
+    enter_all(
+        &mut case,
+        events,
+        ties,
+        &[initial(1), read(1, 1), read(1, 1), write(1, 1), write(1, 1)],
+    )?;
+    let pairs = [
+        (Relation::Rf, 0, 1),
+        (Relation::Rf, 0, 2),
+        (Relation::Co, 0, 3),
+        (Relation::Co, 3, 4),
+        (Relation::Rmw, 1, 3),
+        (Relation::Ctrl, 1, 4),
+    ];
     tie_all(&case, events, ties, &pairs)?;
     match case.seal(events, ties) {
         Ok(case) => Ok(case),
@@ -142,7 +258,12 @@ fn sealed(events: &mut [Event], ties: &mut [u64]) -> Result<SealedCase, Fail> {
 }
 
 // The check of the table source, after one record and one word were written over.
-fn overwritten(number: usize, record: Event, at: usize, word: u64) -> Result<Result<(), Fault>, Fail> {
+fn overwritten(
+    number: usize,
+    record: Event,
+    at: usize,
+    word: u64,
+) -> Result<Result<(), Fault>, Fail> {
     let mut events = [Event::UNUSED; 64];
     let mut ties = [0u64; 384];
     let case = sealed(&mut events, &mut ties)?;
@@ -160,13 +281,34 @@ fn overwritten(number: usize, record: Event, at: usize, word: u64) -> Result<Res
 fn events_and_ties() -> Result<(), Fail> {
     let same = read(1, 1);
     check_eq(overwritten(1, same, 0, 0b110)?, Ok(()))?;
-    check_eq(overwritten(1, event(9, Sort::ReadOnce, 1), 0, 1 << 63)?, Err(fault(Cause::OutOfRange, 1)))?;
-    check_eq(overwritten(1, same, 0, 0b110 | 1 << 63)?, Err(fault(Cause::NoSuchEvent, 63)))?;
-    check_eq(overwritten(1, same, 0, 0b1110)?, Err(fault(Cause::DoesNotFit, 0)))?;
-    check_eq(overwritten(1, same, 3, 0b10)?, Err(fault(Cause::OverLimit, 1)))?;
-    check_eq(overwritten(1, same, 322, 0b1000)?, Err(fault(Cause::OverLimit, 3)))?;
-    check_eq(overwritten(1, same, 321, 0b11000)?, Err(fault(Cause::OverLimit, 4)))?;
-    check_eq(overwritten(1, same, 67, 0)?, Err(fault(Cause::CoherenceNotTotal, 1)))
+    check_eq(
+        overwritten(1, event(9, Sort::ReadOnce, 1), 0, 1 << 63)?,
+        Err(fault(Cause::OutOfRange, 1)),
+    )?;
+    check_eq(
+        overwritten(1, same, 0, 0b110 | 1 << 63)?,
+        Err(fault(Cause::NoSuchEvent, 63)),
+    )?;
+    check_eq(
+        overwritten(1, same, 0, 0b1110)?,
+        Err(fault(Cause::DoesNotFit, 0)),
+    )?;
+    check_eq(
+        overwritten(1, same, 3, 0b10)?,
+        Err(fault(Cause::OverLimit, 1)),
+    )?;
+    check_eq(
+        overwritten(1, same, 322, 0b1000)?,
+        Err(fault(Cause::OverLimit, 3)),
+    )?;
+    check_eq(
+        overwritten(1, same, 321, 0b11000)?,
+        Err(fault(Cause::OverLimit, 4)),
+    )?;
+    check_eq(
+        overwritten(1, same, 67, 0)?,
+        Err(fault(Cause::CoherenceNotTotal, 1)),
+    )
 }
 
 // The same check over layers: a cut hides a dependency and a lowered case is well formed still.
@@ -175,12 +317,23 @@ fn layers_over_tables() -> Result<(), Fail> {
     let mut events = [Event::UNUSED; 64];
     let mut ties = [0u64; 384];
     let case = sealed(&mut events, &mut ties)?;
-    let cut = Cut { below: case.source(&events, &ties)?, relation: 5, event: 1 };
+    let cut = Cut {
+        below: case.source(&events, &ties)?,
+        relation: 5,
+        event: 1,
+    };
     check_eq(cut.row(5, 1), 0)?;
     check_eq(cut.row(6, 1), 0b1000)?;
-    let layers = Lowered { below: cut, sorts: [Sort::ReadOnce.number(); 64] };
+    let layers = Lowered {
+        below: cut,
+        sorts: [Sort::ReadOnce.number(); 64],
+    };
     check_eq(checked(&layers), Ok(()))?;
-    let other = Cut { below: case.source(&events, &ties)?, relation: 1, event: 0 };
+    let other = Cut {
+        below: case.source(&events, &ties)?,
+        relation: 1,
+        event: 0,
+    };
     check_eq(other.row(1, 0), 0b110)?;
     check_eq(checked(&other), Ok(()))
 }

@@ -11,7 +11,11 @@ use sources::lowered::LoweredSource;
 use std::test::*;
 
 fn event(sort: u8) -> Event {
-    Event { thread: 1, sort, place: 0 }
+    Event {
+        thread: 1,
+        sort,
+        place: 0,
+    }
 }
 
 // The sorts that are weaker, each under the one that it may stand for.
@@ -43,7 +47,13 @@ fn is_listed(new: u8, old: u8) -> bool {
 fn shown(new: u8, old: u8) -> Option<u8> {
     let mut sorts = [0u8; 64];
     sorts[0] = new;
-    let layer = Lowered { below: Repeated { event: event(old), count: 1 }, sorts };
+    let layer = Lowered {
+        below: Repeated {
+            event: event(old),
+            count: 1,
+        },
+        sorts,
+    };
     match layer.event(0) {
         Some(e) => Some(e.sort),
         None => None,
@@ -69,7 +79,13 @@ fn other_sorts_leave_the_event() -> Result<(), Fail> {
     check_eq(shown(13, 11), Some(11))?;
     check_eq(shown(255, 2), Some(2))?;
     let mb = event(Sort::Mb.number());
-    let layer = Lowered { below: Repeated { event: mb, count: 66 }, sorts: [Sort::Blank.number(); 64] };
+    let layer = Lowered {
+        below: Repeated {
+            event: mb,
+            count: 66,
+        },
+        sorts: [Sort::Blank.number(); 64],
+    };
     check_eq(layer.event(63), Some(event(Sort::Blank.number())))?;
     check_eq(layer.event(64), Some(mb))?;
     check_eq(layer.event(65), Some(mb))?;

@@ -18,7 +18,11 @@ pub impl CaseSource for Repeated as RepeatedSource {
     }
 
     fn event(&self, number: usize) -> Option<Event> {
-        if number < self.count { Some(self.event) } else { None }
+        if number < self.count {
+            Some(self.event)
+        } else {
+            None
+        }
     }
 
     fn row(&self, relation: u32, event: usize) -> u64 {

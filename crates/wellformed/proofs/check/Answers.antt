@@ -13,7 +13,7 @@ case-fault-requires g c κs = subst Inside (sym (c .in-Some .ensures tt .1)) (in
 pub returns-in-Some-case-fault : need.returns-in-Some-case-fault
 returns-in-Some-case-fault g c =
     let e : first-fault (bounded (g .S·CaseSource .meaning (c .args .source .now))) ≡ Some (c .in-Some-case-fault .found) =
-          sym (ap first-fault (c .in-Some .ensures tt .1)) ∙ sym (c .in-Some-case-fault .ensures tt) in
+    sym (ap first-fault (c .in-Some .ensures tt .1)) ∙ sym (c .in-Some-case-fault .ensures tt) in
     (e, faulty (bounded (g .S·CaseSource .meaning (c .args .source .now))) (inside-bounded (g .S·CaseSource .meaning (c .args .source .now))) (c .in-Some-case-fault .found) e)
 
 pub returns-in-None : need.returns-in-None

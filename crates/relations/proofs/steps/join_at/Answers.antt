@@ -1,4 +1,4 @@
-use mathlib.Core.Path.{_≡_, refl, sym, ap, _∙_}
+use mathlib.Core.Path.{ap, _∙_}
 use native.Mathlib.Omega.{arith}
 use Rattle.relations.specs.Table.{table}
 use Rattle.relations.proofs.Joins.{joined-none, joined-test, joined-more, joined-skip, joined-all, via-none}
@@ -10,7 +10,7 @@ loop-a-holds c = joined-none _ _
 
 pub loop-a-again : need.loop-a-again
 loop-a-again c = elim (c .if-has .came) [
-  then-has w ↦ ap table (w .rows-is) ∙ joined-more _ _ _ _ (omega arith) (omega arith) (omega arith) (c .loop-a .inv) (joined-test _ _ _ _ _ _ (omega arith) (omega arith) (c .loop-a .inv) (c .has .ensures) (w .if-has .taken))
+  | then-has w ↦ ap table (w .rows-is) ∙ joined-more _ _ _ _ (omega arith) (omega arith) (omega arith) (c .loop-a .inv) (joined-test _ _ _ _ _ _ (omega arith) (omega arith) (c .loop-a .inv) (c .has .ensures) (w .if-has .taken))
   | else-has w ↦ ap table (w .rows-is) ∙ c .loop-a .inv ∙ joined-skip _ _ _ (joined-test _ _ _ _ _ _ (omega arith) (omega arith) (c .loop-a .inv) (c .has .ensures) (w .if-has .left))
 ]
 

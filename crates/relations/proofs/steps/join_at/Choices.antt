@@ -1,8 +1,4 @@
 use mathlib.Core.Path.{_≡_}
-use mathlib.Core.Bool.{_&&_, _||_}
-use lib.Dec.{ltb}
-use lib.ListN.{getD, length}
-use Rattle.relations.specs.Algebra.{Rel}
 use Rattle.relations.specs.Table.{table}
 use Rattle.relations.proofs.Joins.{joined}
 use Rattle.relations.proofs.steps.join_at.Given as given

@@ -8,7 +8,7 @@ returns-then-event-ge64 c = word-past (c .args .ties .now) (c .args .relation) (
 pub returns-then-at-ties : need.returns-then-at-ties
 returns-then-at-ties c =
     word-there (c .args .ties .now) (c .args .relation) (c .args .event) (c .word-at-at .result) (c .if-event-ge64 .left) (c .word-at-at .ensures .0)
-      (omega (arith, c .typed .ties (c .word-at-at .result)))
+    (omega (arith, c .typed .ties (c .word-at-at .result)))
 
 pub returns-else-at-ties : need.returns-else-at-ties
 returns-else-at-ties c =

@@ -15,7 +15,7 @@ loop-k-again c = first-more _ (c .loop-k .k) (c .loop-k .inv) (sym (c .in-rest .
 pub returns-in-Some : need.returns-in-Some
 returns-in-Some c =
     first-stop (λ k. thread-fault (execution (c .args .case .now)) (k + 1)) (c .loop-k .k) 8 (c .in-Some .found) (omega arith) (c .loop-k .inv)
-      (sym (c .in-Some .ensures tt))
+    (sym (c .in-Some .ensures tt))
 
 pub returns : need.returns
 returns c = first-all (λ k. thread-fault (execution (c .args .case .now)) (k + 1)) (c .loop-k .k) 8 (omega arith) (omega arith) (c .loop-k .inv)

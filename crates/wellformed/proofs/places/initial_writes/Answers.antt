@@ -11,12 +11,13 @@ pub loop-i-holds : need.loop-i-holds
 loop-i-holds c = (many-none _, omega arith)
 
 pub loop-i-again : need.loop-i-again
-loop-i-again c =
-    ( many-more (initials (execution (c .args .case .now)) (c .args .place)) (c .loop-i .i) (c .loop-i .found) (c .one-if-found .result) (c .loop-i .inv .0)
-        (c .one-if-found .ensures .0 ∙ ap tick (c .is-initial .ensures))
-    , omega (arith, c .loop-i .inv .1, c .one-if-found .ensures .1) )
+loop-i-again c = (
+  many-more (initials (execution (c .args .case .now)) (c .args .place)) (c .loop-i .i) (c .loop-i .found) (c .one-if-found .result) (c .loop-i .inv .0)
+      (c .one-if-found .ensures .0 ∙ ap tick (c .is-initial .ensures)),
+  omega (arith, c .loop-i .inv .1, c .one-if-found .ensures .1),
+)
 
 pub returns : need.returns
 returns c =
     many-all (initials (execution (c .args .case .now)) (c .args .place)) (c .loop-i .i) (count (execution (c .args .case .now))) (c .loop-i .found)
-      (omega (arith, c .count-i-end .ensures)) (c .loop-i .inv .0)
+    (omega (arith, c .count-i-end .ensures)) (c .loop-i .inv .0)

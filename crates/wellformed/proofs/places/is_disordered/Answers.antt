@@ -19,9 +19,9 @@ loop-w-again c = any-more _ (c .loop-w .w) (c .loop-w .inv) (rw (← c .if-not-i
 pub returns-then-is-clash : need.returns-then-is-clash
 returns-then-is-clash c =
     sym (any-from (count (execution (c .args .case .now))) (c .loop-w .w) (disordered (execution (c .args .case .now)) (c .args .place) (c .args .v))
-      (omega (arith, c .count-w-end .ensures)) (rw (← c .if-not-is-write-at .ensures tt) (sym (c .if-is-clash .ensures tt))))
+    (omega (arith, c .count-w-end .ensures)) (rw (← c .if-not-is-write-at .ensures tt) (sym (c .if-is-clash .ensures tt))))
 
 pub returns : need.returns
 returns c =
     any-all (disordered (execution (c .args .case .now)) (c .args .place) (c .args .v)) (c .loop-w .w) (count (execution (c .args .case .now)))
-      (omega (arith, c .count-w-end .ensures)) (omega (arith, c .count-w-end .ensures)) (c .loop-w .inv)
+    (omega (arith, c .count-w-end .ensures)) (omega (arith, c .count-w-end .ensures)) (c .loop-w .inv)

@@ -15,9 +15,9 @@ loop-i-again c = any-more _ (c .loop-i .i) (c .loop-i .inv) (sym (c .if-is-acces
 pub returns-then-is-access : need.returns-then-is-access
 returns-then-is-access c =
     sym (any-from (count (execution (c .args .case .now))) (c .loop-i .i) (accesses (execution (c .args .case .now)) (c .args .place))
-      (omega (arith, c .count-i-end .ensures)) (sym (c .if-is-access .ensures tt)))
+    (omega (arith, c .count-i-end .ensures)) (sym (c .if-is-access .ensures tt)))
 
 pub returns : need.returns
 returns c =
     any-all (accesses (execution (c .args .case .now)) (c .args .place)) (c .loop-i .i) (count (execution (c .args .case .now)))
-      (omega (arith, c .count-i-end .ensures)) (omega (arith, c .count-i-end .ensures)) (c .loop-i .inv)
+    (omega (arith, c .count-i-end .ensures)) (omega (arith, c .count-i-end .ensures)) (c .loop-i .inv)

@@ -19,11 +19,11 @@ pub returns-then-is-disordered : need.returns-then-is-disordered
 returns-then-is-disordered c =
     c .fault .ensures
     ∙ sym (met (any (count (execution (c .args .case .now))) (λ v. any (count (execution (c .args .case .now))) (disordered (execution (c .args .case .now)) (c .args .place) v))) CoherenceNotTotal (c .args .place)
-        (any-from (count (execution (c .args .case .now))) (c .loop-v .v) (λ v. any (count (execution (c .args .case .now))) (disordered (execution (c .args .case .now)) (c .args .place) v))
-          (omega (arith, c .count-v-end .ensures)) (sym (c .if-is-disordered .ensures tt))))
+    (any-from (count (execution (c .args .case .now))) (c .loop-v .v) (λ v. any (count (execution (c .args .case .now))) (disordered (execution (c .args .case .now)) (c .args .place) v))
+    (omega (arith, c .count-v-end .ensures)) (sym (c .if-is-disordered .ensures tt))))
 
 pub returns : need.returns
 returns c =
     sym (unmet (any (count (execution (c .args .case .now))) (λ v. any (count (execution (c .args .case .now))) (disordered (execution (c .args .case .now)) (c .args .place) v))) CoherenceNotTotal (c .args .place)
-      (sym (any-all (λ v. any (count (execution (c .args .case .now))) (disordered (execution (c .args .case .now)) (c .args .place) v)) (c .loop-v .v) (count (execution (c .args .case .now)))
-        (omega (arith, c .count-v-end .ensures)) (omega (arith, c .count-v-end .ensures)) (c .loop-v .inv))))
+    (sym (any-all (λ v. any (count (execution (c .args .case .now))) (disordered (execution (c .args .case .now)) (c .args .place) v)) (c .loop-v .v) (count (execution (c .args .case .now)))
+    (omega (arith, c .count-v-end .ensures)) (omega (arith, c .count-v-end .ensures)) (c .loop-v .inv))))

@@ -15,9 +15,9 @@ loop-i-again c = first-more _ (c .loop-i .i) (c .loop-i .inv) (sym (c .in-rest .
 pub returns-in-Some : need.returns-in-Some
 returns-in-Some c =
     first-stop (range-fault (execution (c .args .case .now))) (c .loop-i .i) (count (execution (c .args .case .now))) (c .in-Some .found)
-      (omega (arith, c .count-i-end .ensures)) (c .loop-i .inv) (sym (c .in-Some .ensures tt))
+    (omega (arith, c .count-i-end .ensures)) (c .loop-i .inv) (sym (c .in-Some .ensures tt))
 
 pub returns : need.returns
 returns c =
     first-all (range-fault (execution (c .args .case .now))) (c .loop-i .i) (count (execution (c .args .case .now)))
-      (omega (arith, c .count-i-end .ensures)) (omega (arith, c .count-i-end .ensures)) (c .loop-i .inv)
+    (omega (arith, c .count-i-end .ensures)) (omega (arith, c .count-i-end .ensures)) (c .loop-i .inv)

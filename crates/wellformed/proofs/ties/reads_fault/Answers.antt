@@ -15,9 +15,9 @@ loop-b-again c = first-more _ (c .loop-b .b) (c .loop-b .inv) (sym (c .in-rest .
 pub returns-in-Some : need.returns-in-Some
 returns-in-Some c =
     first-stop (read-fault (execution (c .args .case .now))) (c .loop-b .b) (count (execution (c .args .case .now))) (c .in-Some .found)
-      (omega (arith, c .count-b-end .ensures)) (c .loop-b .inv) (sym (c .in-Some .ensures tt))
+    (omega (arith, c .count-b-end .ensures)) (c .loop-b .inv) (sym (c .in-Some .ensures tt))
 
 pub returns : need.returns
 returns c =
     first-all (read-fault (execution (c .args .case .now))) (c .loop-b .b) (count (execution (c .args .case .now)))
-      (omega (arith, c .count-b-end .ensures)) (omega (arith, c .count-b-end .ensures)) (c .loop-b .inv)
+    (omega (arith, c .count-b-end .ensures)) (omega (arith, c .count-b-end .ensures)) (c .loop-b .inv)

@@ -15,18 +15,19 @@ pub row-fault-requires : need.row-fault-requires
 row-fault-requires c κs = (omega (arith, c .count-a-end .ensures), c .loop-a .inv .1)
 
 pub loop-a-again : need.loop-a-again
-loop-a-again c =
-    ( first-more _ (c .loop-a .a) (c .loop-a .inv .0) (sym (c .in-rest .ensures tt))
-    , before-more (execution (c .args .case .now)) (c .args .relation) (c .loop-a .a) (c .loop-a .targets) (c .loop-a .sources) (c .row-row .result)
-        (c .source-if-sources .result) (c .has-below .result) (omega (arith, c .count-a-end .ensures, held-few (c .args .case .now))) (c .row-row .ensures) (c .has-below .ensures)
-        (c .source-if-sources .ensures) (c .loop-a .inv .1) )
+loop-a-again c = (
+  first-more _ (c .loop-a .a) (c .loop-a .inv .0) (sym (c .in-rest .ensures tt)),
+  before-more (execution (c .args .case .now)) (c .args .relation) (c .loop-a .a) (c .loop-a .targets) (c .loop-a .sources) (c .row-row .result)
+      (c .source-if-sources .result) (c .has-below .result) (omega (arith, c .count-a-end .ensures, held-few (c .args .case .now))) (c .row-row .ensures) (c .has-below .ensures)
+      (c .source-if-sources .ensures) (c .loop-a .inv .1),
+)
 
 pub returns-in-Some : need.returns-in-Some
 returns-in-Some c =
     first-stop (row-fault (execution (c .args .case .now)) (c .args .relation)) (c .loop-a .a) (count (execution (c .args .case .now))) (c .in-Some .found)
-      (omega (arith, c .count-a-end .ensures)) (c .loop-a .inv .0) (sym (c .in-Some .ensures tt))
+    (omega (arith, c .count-a-end .ensures)) (c .loop-a .inv .0) (sym (c .in-Some .ensures tt))
 
 pub returns : need.returns
 returns c =
     first-all (row-fault (execution (c .args .case .now)) (c .args .relation)) (c .loop-a .a) (count (execution (c .args .case .now)))
-      (omega (arith, c .count-a-end .ensures)) (omega (arith, c .count-a-end .ensures)) (c .loop-a .inv .0)
+    (omega (arith, c .count-a-end .ensures)) (omega (arith, c .count-a-end .ensures)) (c .loop-a .inv .0)

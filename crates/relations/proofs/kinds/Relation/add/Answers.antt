@@ -3,7 +3,7 @@ use mathlib.Core.Logic.{_⊎_, inl, inr}
 use Prim.Native.Nat.{_≤_}
 use native.Mathlib.Omega.{arith}
 use Rattle.relations.specs.View.{rel}
-use Rattle.relations.proofs.Ranges.{on-rel, on-either, on-product}
+use Rattle.relations.proofs.Ranges.{on-rel, on-either, on-pair}
 use Rattle.relations.proofs.Tables.{owes}
 use Rattle.relations.proofs.Writes.{set-adds, pair-past}
 use Rattle.relations.proofs.kinds.Relation.add.Needs as need
@@ -12,7 +12,7 @@ use Rattle.relations.proofs.kinds.Relation.add.Needs.{else-a-self·by·then-a-
 pub ghost-self : need.ghost-self
 unfolding rel
 ghost-self c =
-    owes _ _ _ (omega arith) (on-either _ _ _ (on-rel (c .args .self .now)) (on-product _ _ _))
+    owes _ _ _ (omega arith) (on-either _ _ _ (on-rel (c .args .self .now)) (on-pair _ _ _))
     (set-adds _ _ (c .args .a) (c .args .b) _ (omega arith) (omega arith) (omega arith) (omega arith) (c .with .ensures))
 
 pub returns-then-b-self : need.returns-then-b-self

@@ -1,4 +1,4 @@
-use mathlib.Core.Path.{_≡_, refl, sym, ap, _∙_}
+use mathlib.Core.Path.{refl, _∙_}
 use native.Mathlib.Omega.{arith}
 use Rattle.relations.specs.Algebra.{paths, plus}
 use Rattle.relations.specs.View.{rel}
@@ -24,5 +24,5 @@ ghost-result c = owes _ _ _ (omega arith) (on-paths _ _ _ (on-rel (c .args .self
 pub returns : need.returns
 unfolding rel
 returns c =
-    let whole = c .loop-k .inv ∙ plus-enough _ _ _ (omega arith) (omega arith) (omega arith) (on-rel (c .args .self .now)) in
+    let whole = c .loop-k .inv ∙ plus-enough _ _ _ (omega arith) (omega arith) (on-rel (c .args .self .now)) in
     record { pairs = whole; chains = chains-at _ _ whole (on-more _ _ _ (omega arith) (on-rel (c .args .self .now))); events = refl }

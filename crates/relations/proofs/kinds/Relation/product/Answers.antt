@@ -1,4 +1,3 @@
-use mathlib.Core.Path.{refl}
 use native.Mathlib.Omega.{arith}
 use Rattle.relations.specs.View.{rel}
 use Rattle.relations.proofs.Tables.{done-none, done-more, done-is, done-owes}

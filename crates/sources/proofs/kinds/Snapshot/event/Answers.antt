@@ -11,4 +11,4 @@ returns-then-number-self c = sym (getD-take (c .args .self .now .count) (c .args
 pub returns-else-number-self : need.returns-else-number-self
 returns-else-number-self c =
     sym (getD-past (take (c .args .self .now .count) (c .args .self .now .events)) (c .args .number) unused
-      (omega (arith, length-take (c .args .self .now .count) (c .args .self .now .events))))
+    (omega (arith, length-take (c .args .self .now .count) (c .args .self .now .events))))

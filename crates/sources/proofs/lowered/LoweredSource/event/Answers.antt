@@ -8,7 +8,7 @@ pub returns-in-Some : need.returns-in-Some
 returns-in-Some g c =
     ap Some (c .shown .ensures)
     ∙ lower-some 64 (c .args .self .now .sorts) (g .S·CaseSource .meaning (c .args .self .now .below) .events) (c .args .number) (c .in-Some .event)
-        (c .in-Some .ensures tt)
+    (c .in-Some .ensures tt)
 
 pub returns-in-None : need.returns-in-None
 returns-in-None g c =

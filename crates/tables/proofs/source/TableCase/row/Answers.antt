@@ -9,7 +9,7 @@ returns-in-rest c =
 pub returns-then-event-count : need.returns-then-event-count
 returns-then-event-count c =
     row-some (c .args .self .now .count) (c .args .self .now .events .now) (c .args .self .now .ties .now) (c .args .relation) (c .in-Some .known) (c .args .event) (c .word-of .result)
-      (c .in-Some .ensures tt) (omega (arith, c .count .ensures)) (c .word-of .ensures)
+    (c .in-Some .ensures tt) (omega (arith, c .count .ensures)) (c .word-of .ensures)
 
 pub returns-else-event-count : need.returns-else-event-count
 returns-else-event-count c =

@@ -1,0 +1,5 @@
+mod Cycling
+mod Holes
+mod Meets
+mod Ranking
+mod Walking
