@@ -30,7 +30,7 @@ pub struct Case {
 pub const CASES: usize = 16;
 
 // The case of a number: four inputs of each operation.
-pub fn numbered(number: usize) -> Case {
+pub(crate) fn numbered(number: usize) -> Case {
     let operation = match number / 4 {
         0 => Operation::Closure,
         1 => Operation::Sequence,
@@ -67,7 +67,7 @@ pub impl fmt::Display for Case as CaseDisplay {
 }
 
 // The input of a case: what has to have an order goes upwards only.
-pub fn input(case: &Case) -> Relation {
+pub(crate) fn input(case: &Case) -> Relation {
     let upwards = match case.operation {
         Operation::Order => true,
         _ => false,
@@ -109,7 +109,7 @@ fn line(events: usize, upwards: bool) -> Relation {
 }
 
 // Runs the operation once, and sums its result up in a number.
-pub fn run(operation: Operation, x: &Relation) -> u64 {
+pub(crate) fn run(operation: Operation, x: &Relation) -> u64 {
     match operation {
         Operation::Closure => checksum(&x.plus()),
         Operation::Sequence => checksum(&x.seq(x)),

@@ -44,54 +44,24 @@ fn checked<S: CaseSource>(source: &S) -> Result<(), Fault> {
     }
 }
 
-// More than 64 events: one too many, and many too many.
+// What the check answers of one event, so many times.
+fn repeated(event: Event, count: usize) -> Result<(), Fault> {
+    checked(&Repeated { event, count })
+}
+
+// More than 64 events: one too many, many too many, and before an event out of range.
 #[test]
 fn too_many_events() -> Result<(), Fail> {
     let fence = event(1, Sort::Blank, 0);
+    let many = fault(Cause::TooManyEvents, 64);
+    check_eq(repeated(fence, 0), Ok(()))?;
+    check_eq(repeated(fence, 64), Ok(()))?;
+    check_eq(repeated(fence, 65), Err(many))?;
+    check_eq(repeated(fence, 1000), Err(many))?;
+    check_eq(repeated(event(9, Sort::Blank, 0), 65), Err(many))?;
     check_eq(
-        checked(
-            &Repeated {
-                event: fence,
-                count: 0,
-            },
-        ),
-        Ok(()),
-    )?;
-    check_eq(
-        checked(
-            &Repeated {
-                event: fence,
-                count: 64,
-            },
-        ),
-        Ok(()),
-    )?;
-    check_eq(
-        checked(
-            &Repeated {
-                event: fence,
-                count: 65,
-            },
-        ),
-        Err(fault(Cause::TooManyEvents, 64)),
-    )?;
-    check_eq(
-        checked(
-            &Repeated {
-                event: fence,
-                count: 1000,
-            },
-        ),
-        Err(fault(Cause::TooManyEvents, 64)),
-    )?;
-    check_eq(
-        checked(
-            &Repeated {
-                event: event(9, Sort::Blank, 0),
-                count: 65,
-            },
-        ),
-        Err(fault(Cause::TooManyEvents, 64)),
+        repeated(event(9, Sort::Blank, 0), 64),
+        Err(fault(Cause::OutOfRange, 0)),
     )
 }
 
