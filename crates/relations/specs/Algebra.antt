@@ -3,7 +3,8 @@
 use mathlib.Core.Bool.{Bool, true, false, not, cond, _&&_, _||_}
 use Prim.Native.Nat.{ℕ, zero, suc}
 use lib.Dec.{eqb, ltb}
-pub use Rattle.rows.specs.Row.{Set, any}
+pub use Rattle.rows.specs.Row.{Set}
+unfoldable pub use Rattle.rows.specs.Row.{any}
 
 -- a relation between events
 abbrev pub Rel : Type 0
