@@ -1,0 +1,4 @@
+pub mod Cutting
+pub mod Numbering
+pub mod Wording
+pub mod Spelling

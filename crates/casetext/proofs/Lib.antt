@@ -1,0 +1,10 @@
+mod Accepting
+mod Doing
+mod Scanning
+mod Looping
+mod Refusing
+mod Listing
+mod Building
+mod Backward
+mod Forward
+mod Roundtrip

@@ -1,0 +1,17 @@
+pub mod Closure
+pub mod Trips
+pub mod Cuts
+pub mod Grounds
+pub mod Cancel
+pub mod Rules
+pub mod Entries
+pub mod Precedence
+pub mod Steps
+pub mod Only
+pub mod RowByRow
+pub mod Sizes
+pub mod Short
+pub mod Walks
+pub mod Sheets
+pub mod Stages
+pub mod Deciding

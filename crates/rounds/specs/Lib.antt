@@ -1,0 +1,4 @@
+pub mod Layers
+pub mod Marks
+pub mod Rounds
+pub mod View
