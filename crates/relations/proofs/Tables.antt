@@ -131,8 +131,8 @@ done_is rows i n r end few on d = fun_ext λ a. fun_ext λ b. both_same (table r
 
 -- ---- what a value of the code owes: at most 64 events, and no pair past them
 
-pub owes : (rows : List ℕ) (n : ℕ) (r : Rel) → n ≤ 64 → On n r → table rows ≡ r → (n ≤ 64) × (On n (table rows) × Unit {0})
-owes rows n r few on e = (few, (on_at n (table rows) r e on, tt))
+pub owes : (rows : List ℕ) (n : ℕ) (r : Rel) → n ≤ 64 → On n r → table rows ≡ r → record { few : n ≤ 64; inside : On n (table rows) }
+owes rows n r few on e = record { few = few; inside = on_at n (table rows) r e on }
 
-pub done_owes : (rows : List ℕ) (i n : ℕ) (r : Rel) → n ≤ i → n ≤ 64 → On n r → Done rows i r → (n ≤ 64) × (On n (table rows) × Unit {0})
+pub done_owes : (rows : List ℕ) (i n : ℕ) (r : Rel) → n ≤ i → n ≤ 64 → On n r → Done rows i r → record { few : n ≤ 64; inside : On n (table rows) }
 done_owes rows i n r end few on d = owes rows n r few on (done_is rows i n r end few on d)
