@@ -6,7 +6,7 @@ use Rattle.casetext.specs.declared.kinds.TextFault.{TextFault}
 use Rattle.casetext.specs.Reading.{line_step}
 use Rattle.casetext.proofs.Looping.{exact_more, shorter, lines_more, lines_bounded, lines_fail, lines_end, lines_open, lines_rest}
 use Rattle.casetext.proofs.reading.take_lines.Goals as goal
-use Rattle.casetext.proofs.reading.take_lines.Goals.{else-is-done-via-then-is-done+else-rest-eq0, else-is_done-via-else-is_done}
+use Rattle.casetext.proofs.reading.take_lines.Goals.{else-is_done-via-then-is_done+else-rest-eq0, else-is_done-via-else-is_done}
 
 pub returns-in_err-reader : goal.returns-in_err-reader
 returns-in_err-reader c =
@@ -57,7 +57,7 @@ returns-else-is_done c =
     let t = tables c.loop-bytes.case c.loop-bytes.events c.loop-bytes.ties in
     rw c.text_fault.ensures (record {
       scanned = elim c.else-is_done.branch [
-        | else-is-done-via-then-is-done+else-rest-eq0 w ↦
+        | else-is_done-via-then-is_done+else-rest-eq0 w ↦
             lines_rest (length c.args.events.now) (length c.args.ties.now) (length c.loop-bytes.events) (length c.loop-bytes.ties)
             c.loop-bytes.auto.events c.loop-bytes.auto.ties _ c.loop-bytes.reader t c.loop-bytes.rest.now c.loop-bytes.invariant.0
             c.in_default.ensures w.if-rest-eq0.false

@@ -14,37 +14,18 @@ located-requires c = (c.grouped-groups.ensures.places, either_is c.reading-reads
 
 pub invariant_of-result : goal.invariant_of-result
 invariant_of-result c =
-    let n = sym c.program_order.ensures.events in (
-      c.internal.ensures.events ∙ n,
-      (
-        c.located.ensures.events ∙ n,
-        (
-          c.ties.ensures.events ∙ n,
-          (
-            c.plus.ensures.events ∙ c.ties-2.ensures.events ∙ n,
-            (
-              c.ties-3.ensures.events ∙ n,
-              (
-                c.ties-4.ensures.events ∙ n,
-                (
-                  c.ties-5.ensures.events ∙ n,
-                  (
-                    c.ties-6.ensures.events ∙ n,
-                    (
-                      c.sections.ensures.events ∙ n,
-                      (
-                        λ s h. omega (arith, sort_inside (execution c.args.case.now) SyncRcu s (ap (λ (f : Set). f s) (sym c.sorted-7.ensures) ∙ h), c.program_order.ensures.events),
-                        tt,
-                      ),
-                    ),
-                  ),
-                ),
-              ),
-            ),
-          ),
-        ),
-      ),
-    )
+    let n = sym c.program_order.ensures.events in record {
+      int_alike = c.internal.ensures.events ∙ n;
+      loc_alike = c.located.ensures.events ∙ n;
+      rf_alike = c.ties.ensures.events ∙ n;
+      co_alike = c.plus.ensures.events ∙ c.ties-2.ensures.events ∙ n;
+      addr_alike = c.ties-3.ensures.events ∙ n;
+      data_alike = c.ties-4.ensures.events ∙ n;
+      ctrl_alike = c.ties-5.ensures.events ∙ n;
+      rmw_alike = c.ties-6.ensures.events ∙ n;
+      crit_alike = c.sections.ensures.events ∙ n;
+      inside = λ s h. omega (arith, sort_inside (execution c.args.case.now) SyncRcu s (ap (λ (f : Set). f s) (sym c.sorted-7.ensures) ∙ h), c.program_order.ensures.events);
+    }
 
 pub returns : goal.returns
 unfolding basis

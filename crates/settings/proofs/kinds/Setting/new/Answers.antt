@@ -20,31 +20,14 @@ pub invariant_of-result : goal.invariant_of-result
 invariant_of-result c =
     let a = c.args in
     let e = gp_is a.po a.prop a.hb a.strong a.crit a.periods _ _ _ c.opt-ahead.ensures.pairs c.to.ensures.pairs c.seq.ensures.pairs in
-    let alike = c.alike.ensures.0 c.if-not-alike.false in (
-      alike.prop_size,
-      (
-        alike.hb_size,
-        (
-          alike.strong_size,
-          (
-            alike.crit_size,
-            (
-              (λ s k. let l = (c.inside.ensures (omega arith)).0 c.if-not-inside.false s k in omega arith),
-              (
-                contains_at _ _ _ e (c.contains.ensures.0 c.if-not-contains.false),
-                (
-                  λ x y. ap (λ (r : Rel). r x y) c.inverse.ensures.pairs,
-                  (
-                    c.opt-ahead.ensures.events,
-                    (
-                      λ x y. ap (λ (r : Rel). r x y) c.opt-ahead.ensures.pairs,
-                      tt,
-                    ),
-                  ),
-                ),
-              ),
-            ),
-          ),
-        ),
-      ),
-    )
+    let alike = c.alike.ensures.0 c.if-not-alike.false in record {
+      prop_alike = alike.prop_size;
+      hb_alike = alike.hb_size;
+      strong_alike = alike.strong_size;
+      crit_alike = alike.crit_size;
+      inside = λ s k. let l = (c.inside.ensures (omega arith)).0 c.if-not-inside.false s k in omega arith;
+      fences = contains_at _ _ _ e (c.contains.ensures.0 c.if-not-contains.false);
+      backward = λ x y. ap (λ (r : Rel). r x y) c.inverse.ensures.pairs;
+      ahead_alike = c.opt-ahead.ensures.events;
+      onward = λ x y. ap (λ (r : Rel). r x y) c.opt-ahead.ensures.pairs;
+    }
