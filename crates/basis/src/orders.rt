@@ -43,7 +43,7 @@ pub(crate) fn program_order(case: &Snapshot, groups: &Groups) -> Relation
 // The later events of the same thread.
 fn later(case: &Snapshot, groups: &Groups, a: usize) -> u64
     requires grouped { Grouped (λ b. (event_at (execution case.now) b).thread) (events_of (execution case.now)) groups.now.threads }
-    requires a_bound { a < 64 }
+    requires inside { a < 64 }
     ensures { bit result ≡ po (execution case.now) a }
 {
     let event = case.event(a);
@@ -71,7 +71,7 @@ pub(crate) fn internal(case: &Snapshot, groups: &Groups) -> Relation
 // The event itself and all of its thread of the program.
 fn fellows(case: &Snapshot, groups: &Groups, a: usize) -> u64
     requires grouped { Grouped (λ b. (event_at (execution case.now) b).thread) (events_of (execution case.now)) groups.now.threads }
-    requires a_bound { a < events_of (execution case.now) }
+    requires inside { a < events_of (execution case.now) }
     ensures { bit result ≡ int (execution case.now) a }
 {
     let event = case.event(a);
@@ -85,7 +85,7 @@ fn fellows(case: &Snapshot, groups: &Groups, a: usize) -> u64
 // Reads and writes of one place.
 pub(crate) fn located(case: &Snapshot, groups: &Groups, accesses: u64) -> Relation
     requires grouped { Grouped (λ b. (event_at (execution case.now) b).place) (events_of (execution case.now)) groups.now.places }
-    requires accesses_value { bit accesses ≡ accessed (execution case.now) }
+    requires all_accesses { bit accesses ≡ accessed (execution case.now) }
     ensures pairs { rel result ≡ loc (execution case.now) }
     ensures events { size result ≡ events_of (execution case.now) }
 {
@@ -100,7 +100,7 @@ pub(crate) fn located(case: &Snapshot, groups: &Groups, accesses: u64) -> Relati
 // The reads and writes of the same place.
 fn beside(case: &Snapshot, groups: &Groups, accesses: u64, a: usize) -> u64
     requires grouped { Grouped (λ b. (event_at (execution case.now) b).place) (events_of (execution case.now)) groups.now.places }
-    requires accesses_value { bit accesses ≡ accessed (execution case.now) }
+    requires all_accesses { bit accesses ≡ accessed (execution case.now) }
     ensures { bit result ≡ loc (execution case.now) a }
 {
     if has(accesses, a) {

@@ -57,9 +57,9 @@ pub(crate) fn strong_fence(b: &Base) -> Relation
 }
 
 pub(crate) fn fence(b: &Base, strong: &Relation, po_rel: &Relation, wmb: &Relation) -> Relation
-    requires of { Of b.now model.strong_fence strong.now }
-    requires of_2 { Of b.now model.po_rel po_rel.now }
-    requires of_3 { Of b.now model.wmb wmb.now }
+    requires of_strong_fence { Of b.now model.strong_fence strong.now }
+    requires of_po_rel { Of b.now model.po_rel po_rel.now }
+    requires of_wmb { Of b.now model.wmb wmb.now }
     ensures { Of b.now model.fence result }
 {
     strong.union(&po_rel.union(&wmb.union(&rmb(b).union(&acq_po(b)))))

@@ -22,16 +22,16 @@ pub(crate) fn rwdep(b: &Base, dep: &Relation) -> Relation
 }
 
 pub(crate) fn to_w(b: &Base, dep: &Relation, overwrite: &Relation) -> Relation
-    requires of { Of b.now model.dep dep.now }
-    requires of_2 { Of b.now model.overwrite overwrite.now }
+    requires of_dep { Of b.now model.dep dep.now }
+    requires of_overwrite { Of b.now model.overwrite overwrite.now }
     ensures { Of b.now model.to_w result }
 {
     rwdep(b, dep).union(&overwrite.inter(&b.int))
 }
 
 pub(crate) fn rrdep(b: &Base, dep: &Relation, rfi: &Relation) -> Relation
-    requires of { Of b.now model.dep dep.now }
-    requires of_2 { Of b.now model.rfi rfi.now }
+    requires of_dep { Of b.now model.dep dep.now }
+    requires of_rfi { Of b.now model.rfi rfi.now }
     ensures { Of b.now model.rrdep result }
 {
     b.addr.union(&dep.seq(rfi))
@@ -39,8 +39,8 @@ pub(crate) fn rrdep(b: &Base, dep: &Relation, rfi: &Relation) -> Relation
 
 // The closure of rrdep is handed in, since ppo begins with it too.
 pub(crate) fn to_r(b: &Base, chains: &Relation, rfi: &Relation) -> Relation
-    requires of { Of b.now (λ x. plus (model.rrdep x)) chains.now }
-    requires of_2 { Of b.now model.rfi rfi.now }
+    requires of_rrdep { Of b.now (λ x. plus (model.rrdep x)) chains.now }
+    requires of_rfi { Of b.now model.rfi rfi.now }
     ensures { Of b.now model.to_r result }
 {
     chains
@@ -49,8 +49,8 @@ pub(crate) fn to_r(b: &Base, chains: &Relation, rfi: &Relation) -> Relation
 }
 
 pub(crate) fn ppo(b: &Base, overwrite: &Relation, fence: &Relation) -> Relation
-    requires of { Of b.now model.overwrite overwrite.now }
-    requires of_2 { Of b.now model.fence fence.now }
+    requires of_overwrite { Of b.now model.overwrite overwrite.now }
+    requires of_fence { Of b.now model.fence fence.now }
     ensures { Of b.now model.ppo result }
 {
     let dep = dep(b);

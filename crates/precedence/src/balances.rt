@@ -96,7 +96,7 @@ fn join_row(row: &mut Row, reach: u8, on: &Row, relay: &Relay)
 
 // The sheet with a relay besides. Only rows from which the relay is reached change.
 pub(crate) fn add_relay(m: &mut Sheet, reach: &Row, relay: &Relay)
-    requires reach_value { cells reach.now ≡ (λ d. most 64 (bit relay.now.into) (sheet m.old d)) }
+    requires reached { cells reach.now ≡ (λ d. most 64 (bit relay.now.into) (sheet m.old d)) }
     requires fits { Fits (relayed (sheet m.old) (bit relay.now.into) (bit relay.now.out) relay.now.periods relay.now.sections) }
     ensures { sheet m.new ≡ relayed (sheet m.old) (bit relay.now.into) (bit relay.now.out) relay.now.periods relay.now.sections }
 {
@@ -123,7 +123,7 @@ pub(crate) fn closing(reach: &Row, periods: u8, sections: u8) -> u64
 
 // Adds a period or a section, unless it makes a round with what the sheet has.
 pub(crate) fn add_node(m: &mut Sheet, relay: &Relay) -> bool
-    requires periods_bound { relay.now.periods ≤ 1 }
+    requires one_period { relay.now.periods ≤ 1 }
     requires fits { turns (sheet m.old) (bit relay.now.into) (bit relay.now.out) relay.now.periods relay.now.sections ≡ false → Fits (relayed (sheet m.old) (bit relay.now.into) (bit relay.now.out) relay.now.periods relay.now.sections) }
     ensures calm { result ≡ not (turns (sheet m.old) (bit relay.now.into) (bit relay.now.out) relay.now.periods relay.now.sections) }
     ensures more { result ≡ true → sheet m.new ≡ relayed (sheet m.old) (bit relay.now.into) (bit relay.now.out) relay.now.periods relay.now.sections }

@@ -40,8 +40,8 @@ fn add_periods(x: &Setting, m: &mut Sheet) -> bool
 
 // Adds the sections one after another; false where one makes a round with the periods and the sections before it.
 fn add_sections(x: &Setting, m: &mut Sheet) -> bool
-    requires m_value { sheet m.old ≡ period_sheet (scene x.now) 64 }
-    requires x_value { any 64 (period_turns (scene x.now)) ≡ false }
+    requires after_periods { sheet m.old ≡ period_sheet (scene x.now) 64 }
+    requires calm { any 64 (period_turns (scene x.now)) ≡ false }
     ensures calm { result ≡ not (any 64 (section_turns (scene x.now))) }
     ensures more { result ≡ true → sheet m.new ≡ section_sheet (scene x.now) 64 }
 {
@@ -81,8 +81,8 @@ fn all_after(x: &Setting, closing: u64) -> u64
 
 // The row of lock l, and the sheet with that row besides.
 fn add_row(x: &Setting, m: &mut Sheet, l: usize) -> u64
-    requires m_value { sheet m.old ≡ row_sheet (scene x.now) l }
-    requires x_value { rounds (scene x.now) ≡ false }
+    requires rows_before { sheet m.old ≡ row_sheet (scene x.now) l }
+    requires no_round { rounds (scene x.now) ≡ false }
     ensures row { bit result ≡ first_table (scene x.now) l }
     ensures more { sheet m.new ≡ row_sheet (scene x.now) (suc l) }
 {
@@ -107,8 +107,8 @@ fn add_row(x: &Setting, m: &mut Sheet, l: usize) -> u64
 
 // The rows of all locks.
 fn all_rows(x: &Setting, m: &mut Sheet) -> [u64; 64]
-    requires m_value { sheet m.old ≡ section_sheet (scene x.now) 64 }
-    requires x_value { rounds (scene x.now) ≡ false }
+    requires after_sections { sheet m.old ≡ section_sheet (scene x.now) 64 }
+    requires no_round { rounds (scene x.now) ≡ false }
     ensures { table result ≡ first_table (scene x.now) }
 {
     let mut rows = [0; 64];

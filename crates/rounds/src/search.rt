@@ -41,8 +41,8 @@ fn holder(row: &Row, set: u64, value: u8) -> usize
 
 // The step that leaves the most period steps: a section step where both leave as many.
 fn onward(up: u64, down: u64, row: &Row) -> Step
-    requires by_index { (b : ℕ) → cells row.now b < 255 }
-    requires bound { 1 ≤ max (raised (most 64 (bit up) (cells row.now))) (most 64 (bit down) (cells row.now)) }
+    requires rows_fit { (b : ℕ) → cells row.now b < 255 }
+    requires some_way { 1 ≤ max (raised (most 64 (bit up) (cells row.now))) (most 64 (bit down) (cells row.now)) }
     ensures { BestStep (bit up) (bit down) (cells row.now) result.mark result.to }
 {
     let by_period = best(row, up);

@@ -81,9 +81,9 @@ fn forbid(
     words: &[u64; 64],
     sheet: &mut [SheetRow],
 ) -> Breach
-    requires setting_value { scene_of_setting setting.now ≡ scene_of_model (held model.now) }
-    requires fact { Keeps (held model.now) rule → ⊥ }
-    requires in_bounds { 64 ≤ length sheet.old }
+    requires same_scene { scene_of_setting setting.now ≡ scene_of_model (held model.now) }
+    requires is_broken { Keeps (held model.now) rule → ⊥ }
+    requires room { 64 ≤ length sheet.old }
     ensures { Breached (held model.now) rule words.now sheet.old sheet.new result }
 {
     let page = round_of(model, setting, rule);
@@ -102,10 +102,10 @@ fn allow(
     words: &[u64; 64],
     sheet: &mut [SheetRow],
 )
-    requires setting_value { scene_of_setting setting.now ≡ scene_of_model (held model.now) }
-    requires keeps_scpv { (KeepsScpv (held model.now)) × (KeepsHb (held model.now)) }
+    requires same_scene { scene_of_setting setting.now ≡ scene_of_model (held model.now) }
+    requires both_kept { (KeepsScpv (held model.now)) × (KeepsHb (held model.now)) }
     requires orderable { Orderable (scene_of_model (held model.now)) table.now }
-    requires in_bounds { 64 ≤ length sheet.old }
+    requires room { 64 ≤ length sheet.old }
     ensures { AllowedBy (held model.now) table.now words.now sheet.old sheet.new }
 {
     let page = Page {

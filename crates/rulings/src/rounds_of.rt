@@ -15,8 +15,8 @@ use settings::Setting;
 
 // A round of a rule that is broken.
 pub(crate) fn round_of(model: &Model, setting: &Setting, rule: Rule) -> Page
-    requires setting_value { scene_of_setting setting.now ≡ scene_of_model (held model.now) }
-    requires fact { Keeps (held model.now) rule → ⊥ }
+    requires same_scene { scene_of_setting setting.now ≡ scene_of_model (held model.now) }
+    requires is_broken { Keeps (held model.now) rule → ⊥ }
     ensures { PageOf (RoundOf (held model.now) rule) result }
 {
     match rule {

@@ -40,7 +40,7 @@ pub(crate) fn step(
     call: Call,
 ) -> (State, Answer)
     requires still_formed { StillFormed state events.old ties.old }
-    requires in_bounds { (64 ≤ length events.old) × (384 ≤ length ties.old) }
+    requires room { (64 ≤ length events.old) × (384 ≤ length ties.old) }
     ensures steps { Step (length events.old) (length ties.old) (plain state events.old ties.old) call result.1 (plain result.0 events.new ties.new) }
     ensures formed { StillFormed result.0 events.new ties.new }
     ensures exact { Exact (tables_of state events.old ties.old) → Exact (tables_of result.0 events.new ties.new) }
@@ -127,7 +127,7 @@ fn seal(case: OpenCase, events: &[Event], ties: &[u64]) -> (State, Answer)
 // One call on a sealed case; no table changes.
 fn step_sealed(case: SealedCase, events: &[Event], ties: &[u64], call: Call) -> (State, Answer)
     requires still_formed { StillFormed (SealedState case) events.now ties.now }
-    requires in_bounds { (64 ≤ length events.now) × (384 ≤ length ties.now) }
+    requires room { (64 ≤ length events.now) × (384 ≤ length ties.now) }
     ensures steps { SealedStep (plain (SealedState case) events.now ties.now) call result.1 (plain result.0 events.now ties.now) }
     ensures formed { StillFormed result.0 events.now ties.now }
     ensures exact { Exact (tables_of (SealedState case) events.now ties.now) → Exact (tables_of result.0 events.now ties.now) }
@@ -145,7 +145,7 @@ fn step_sealed(case: SealedCase, events: &[Event], ties: &[u64], call: Call) -> 
 // Judges a sealed case on a sheet of so many rows.
 fn judged(case: &SealedCase, events: &[Event], ties: &[u64], rows: usize) -> Answer
     requires still_formed { StillFormed (SealedState case.now) events.now ties.now }
-    requires in_bounds { (64 ≤ length events.now) × (384 ≤ length ties.now) }
+    requires room { (64 ≤ length events.now) × (384 ≤ length ties.now) }
     ensures { MatchBool (nat_lt rows 64) (result ≡ RefusedAnswer too_short) (RuledOn (plain (SealedState case.now) events.now ties.now) result) }
 {
     let mut sheet = [SheetRow::BLANK; 64];

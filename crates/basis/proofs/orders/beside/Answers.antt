@@ -6,10 +6,10 @@ use Rattle.basis.proofs.orders.beside.Goals as goal
 
 pub returns-then-has : goal.returns-then-has
 returns-then-has c =
-    beside_at (execution c.args.case.now) c.args.groups.now.places c.requires.0 c.args.accesses c.requires.1 c.args.a c.event.result c.event.ensures
-    (omega arith) (ap (λ (s : Set). s c.args.a) (sym c.requires.1) ∙ sym c.if-has.ensures)
+    beside_at (execution c.args.case.now) c.args.groups.now.places c.requires.grouped c.args.accesses c.requires.all_accesses c.args.a c.event.result c.event.ensures
+    (omega arith) (ap (λ (s : Set). s c.args.a) (sym c.requires.all_accesses) ∙ sym c.if-has.ensures)
 
 pub returns-else-has : goal.returns-else-has
 returns-else-has c =
-    none_beside (execution c.args.case.now) c.args.groups.now.places c.requires.0 c.args.accesses c.requires.1 c.args.a
-    (ap (λ (s : Set). s c.args.a) (sym c.requires.1) ∙ sym c.if-has.ensures)
+    none_beside (execution c.args.case.now) c.args.groups.now.places c.requires.grouped c.args.accesses c.requires.all_accesses c.args.a
+    (ap (λ (s : Set). s c.args.a) (sym c.requires.all_accesses) ∙ sym c.if-has.ensures)

@@ -7,10 +7,10 @@ use Rattle.basis.proofs.orders.fellows.Goals as goal
 
 pub returns-then-in_program : goal.returns-then-in_program
 returns-then-in_program c =
-    fellows_at (execution c.args.case.now) c.args.groups.now.threads (held_few c.args.case.now) c.requires.0 c.args.a c.event-event.result c.event-event.ensures
+    fellows_at (execution c.args.case.now) c.args.groups.now.threads (held_few c.args.case.now) c.requires.grouped c.args.a c.event-event.result c.event-event.ensures
     (omega arith) (sym c.if-in_program.ensures)
 
 pub returns-else-in_program : goal.returns-else-in_program
 returns-else-in_program c =
-    alone_is (execution c.args.case.now) c.args.groups.now.threads (held_few c.args.case.now) c.requires.0 c.args.a c.with.result c.requires.1 c.with.ensures
+    alone_is (execution c.args.case.now) c.args.groups.now.threads (held_few c.args.case.now) c.requires.grouped c.args.a c.with.result c.requires.inside c.with.ensures
     (ap in_program (sym c.event-event.ensures) ∙ sym c.if-in_program.ensures)

@@ -7,10 +7,10 @@ use Rattle.basis.proofs.orders.later.Goals as goal
 
 pub returns-then-in_program : goal.returns-then-in_program
 returns-then-in_program c =
-    later_at (execution c.args.case.now) c.args.groups.now.threads (held_few c.args.case.now) c.requires.0 c.args.a c.event-event.result c.event-event.ensures
+    later_at (execution c.args.case.now) c.args.groups.now.threads (held_few c.args.case.now) c.requires.grouped c.args.a c.event-event.result c.event-event.ensures
     c.below.result (search rules) (omega arith) c.below.ensures (omega arith) (sym c.if-in_program.ensures)
 
 pub returns-else-in_program : goal.returns-else-in_program
 returns-else-in_program c =
-    none_later (execution c.args.case.now) c.args.groups.now.threads (held_few c.args.case.now) c.requires.0 c.args.a
+    none_later (execution c.args.case.now) c.args.groups.now.threads (held_few c.args.case.now) c.requires.grouped c.args.a
     (ap in_program (sym c.event-event.ensures) ∙ sym c.if-in_program.ensures)

@@ -13,6 +13,6 @@ returns c =
       pairs =
           c.seq.ensures.pairs
           ∙ ap₂ seq (c.opt.ensures.pairs ∙ ap₂ opt all chains)
-          (c.union-last.ensures.pairs ∙ ap₂ union c.to_r.ensures.pairs (c.union.ensures.pairs ∙ ap₂ union c.to_w.ensures.pairs c.requires.1.pairs));
+          (c.union-last.ensures.pairs ∙ ap₂ union c.to_r.ensures.pairs (c.union.ensures.pairs ∙ ap₂ union c.to_w.ensures.pairs c.requires.of_fence.pairs));
       events = omega arith;
     }

@@ -14,7 +14,7 @@ returns c =
       pairs =
           c.union-2.ensures.pairs
           ∙ ap₂ union
-          (c.inter.ensures.pairs ∙ ap (λ (r : Rel). inter r (rel b.int)) (c.diff.ensures.pairs ∙ ap₂ diff c.requires.0.pairs (c.identity-itself.ensures.pairs ∙ ap identity all)))
-          (c.union.ensures.pairs ∙ ap₂ union c.requires.1.pairs c.requires.2.pairs);
+          (c.inter.ensures.pairs ∙ ap (λ (r : Rel). inter r (rel b.int)) (c.diff.ensures.pairs ∙ ap₂ diff c.requires.of_prop.pairs (c.identity-itself.ensures.pairs ∙ ap identity all)))
+          (c.union.ensures.pairs ∙ ap₂ union c.requires.of_ppo.pairs c.requires.of_rfe.pairs);
       events = omega arith;
     }

@@ -12,7 +12,7 @@ pub returns-then-relay-eq0 : goal.returns-then-relay-eq0
 returns-then-relay-eq0 c =
     let none : (a : ℕ) → bit c.args.relay.now.into a ≡ false = λ a. ap (λ (n : ℕ). bit n a) c.if-relay-eq0.true ∙ bit_zero a in
     record {
-      calm = sym (ap not (turns_idle (sheet c.args.m.now) (bit c.args.relay.now.into) (bit c.args.relay.now.out) c.args.relay.now.periods c.args.relay.now.sections c.requires.0 none));
+      calm = sym (ap not (turns_idle (sheet c.args.m.now) (bit c.args.relay.now.into) (bit c.args.relay.now.out) c.args.relay.now.periods c.args.relay.now.sections c.requires.one_period none));
       more = λ _. relayed_none (sheet c.args.m.now) (bit c.args.relay.now.into) (bit c.args.relay.now.out) c.args.relay.now.periods c.args.relay.now.sections none;
     }
 
@@ -24,7 +24,7 @@ returns-then-meets c =
 pub add_relay-requires : goal.add_relay-requires
 add_relay-requires c =
     let e = turns_when (sheet c.args.m.now) (bit c.args.relay.now.into) (bit c.args.relay.now.out) (bit c.closing.result) _ _ _ c.reaches-reach.ensures c.closing.ensures in
-    (c.reaches-reach.ensures, c.requires.1 (sym e ∙ sym c.meets.ensures ∙ c.if-meets.false))
+    record { reached = c.reaches-reach.ensures; fits = c.requires.fits (sym e ∙ sym c.meets.ensures ∙ c.if-meets.false) }
 
 pub returns : goal.returns
 returns c =

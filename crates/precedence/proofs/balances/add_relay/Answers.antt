@@ -16,19 +16,19 @@ join_row-requires c = λ b.
     subst (λ (n : ℕ). joined c.args.relay.now.periods c.args.relay.now.sections n (cells c.onward-on.result b) ≤ 255)
     (cell_at c.args.reach.now c.loop-a.a (omega arith))
     (relayed_byte c.args.m.now (bit c.args.relay.now.into) (bit c.args.relay.now.out) _ _ (cells c.args.reach.now) (cells c.onward-on.result)
-    c.requires.0 c.onward-on.ensures c.loop-a.a c.requires.1 b)
+    c.requires.reached c.onward-on.ensures c.loop-a.a c.requires.fits b)
 
 pub loop-a-preserved : goal.loop-a-preserved
 loop-a-preserved c = elim c.if-reach-a-ne0.branch [
   | then-reach-a-ne0 w ↦
       (rowed_more _ _ _ _ _ _ w.m-is (omega arith) c.loop-a.invariant
-      (relayed_row c.args.m.now _ _ _ _ (cells c.args.reach.now) (cells c.onward-on.result) c.requires.0 c.onward-on.ensures c.loop-a.a _
+      (relayed_row c.args.m.now _ _ _ _ (cells c.args.reach.now) (cells c.onward-on.result) c.requires.reached c.onward-on.ensures c.loop-a.a _
       (w.join_row.ensures ∙ fun_ext λ b.
       ap₂ max (ap (λ (f : ℕ → ℕ). f b) (rowed_here _ _ _ _ c.loop-a.invariant))
       (ap (λ (n : ℕ). joined c.args.relay.now.periods c.args.relay.now.sections n (cells c.onward-on.result b)) (sym (cell_at c.args.reach.now c.loop-a.a (omega arith)))))))
   | else-reach-a-ne0 w ↦
       (rowed_skip _ _ _ _ _ w.m-is c.loop-a.invariant
-      (relayed_still c.args.m.now _ _ _ _ (cells c.args.reach.now) (cells c.onward-on.result) c.requires.0 c.onward-on.ensures c.loop-a.a
+      (relayed_still c.args.m.now _ _ _ _ (cells c.args.reach.now) (cells c.onward-on.result) c.requires.reached c.onward-on.ensures c.loop-a.a
       (cell_at c.args.reach.now c.loop-a.a (omega arith) ∙ w.if-reach-a-ne0.false)))
 ]
 

@@ -10,16 +10,13 @@ pub returns-then-not-is_lock : goal.returns-then-not-is_lock
 returns-then-not-is_lock c =
     let x = c.args.x.now in
     let none = sym c.is_lock.ensures ∙ c.if-not-is_lock.true in
-    record { row = empty_row (scene x) (sound x) c.args.l none; more = same_sheet (scene x) (sound x) c.args.l none (sheet c.args.m.now) c.requires.0 }
+    record { row = empty_row (scene x) (sound x) c.args.l none; more = same_sheet (scene x) (sound x) c.args.l none (sheet c.args.m.now) c.requires.rows_before }
 
 pub add_relay-requires : goal.add_relay-requires
 add_relay-requires c =
-    let x = c.args.x.now in (
-      c.reaches-reach.ensures,
-      row_fit (scene x) (sound x) c.args.l (sym c.is_lock.ensures ∙ c.if-not-is_lock.false) (sheet c.args.m.now) (bit c.before_unlock-into.result) (bit c.closing.result)
-          (bit c.all_after-row.result) (bit c.from_any.result) (cells c.reaches-reach.result) c.requires.0 c.before_unlock-into.ensures c.reaches-reach.ensures
-          c.closing.ensures c.all_after-row.ensures c.from_any.ensures c.requires.1,
-    )
+    let x = c.args.x.now in record { reached = c.reaches-reach.ensures; fits = row_fit (scene x) (sound x) c.args.l (sym c.is_lock.ensures ∙ c.if-not-is_lock.false) (sheet c.args.m.now) (bit c.before_unlock-into.result) (bit c.closing.result)
+          (bit c.all_after-row.result) (bit c.from_any.result) (cells c.reaches-reach.result) c.requires.rows_before c.before_unlock-into.ensures c.reaches-reach.ensures
+          c.closing.ensures c.all_after-row.ensures c.from_any.ensures c.requires.no_round }
 
 pub returns : goal.returns
 returns c =
@@ -28,9 +25,9 @@ returns c =
     record {
       row =
           row_is (scene x) (sound x) c.args.l lock (sheet c.args.m.now) (bit c.before_unlock-into.result) (bit c.closing.result) (bit c.all_after-row.result)
-          (bit c.from_any.result) (cells c.reaches-reach.result) c.requires.0 c.before_unlock-into.ensures c.reaches-reach.ensures c.closing.ensures c.all_after-row.ensures;
+          (bit c.from_any.result) (cells c.reaches-reach.result) c.requires.rows_before c.before_unlock-into.ensures c.reaches-reach.ensures c.closing.ensures c.all_after-row.ensures;
       more =
           row_more (scene x) (sound x) c.args.l lock (sheet c.args.m.now) (bit c.before_unlock-into.result) (bit c.closing.result) (bit c.all_after-row.result)
-          (bit c.from_any.result) (cells c.reaches-reach.result) c.requires.0 c.before_unlock-into.ensures c.reaches-reach.ensures c.closing.ensures c.all_after-row.ensures
+          (bit c.from_any.result) (cells c.reaches-reach.result) c.requires.rows_before c.before_unlock-into.ensures c.reaches-reach.ensures c.closing.ensures c.all_after-row.ensures
           c.from_any.ensures (sheet c.add_relay.new.m) c.add_relay.ensures;
     }

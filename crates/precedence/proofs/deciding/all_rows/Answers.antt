@@ -8,10 +8,10 @@ use Rattle.precedence.proofs.Tabling.{row_start, first_on}
 use Rattle.precedence.proofs.deciding.all_rows.Goals as goal
 
 pub loop-l-init : goal.loop-l-init
-loop-l-init c = (c.requires.0 ∙ row_start (scene c.args.x.now), done_none _)
+loop-l-init c = (c.requires.after_sections ∙ row_start (scene c.args.x.now), done_none _)
 
 pub add_row-requires : goal.add_row-requires
-add_row-requires c = (c.loop-l.invariant.0, c.requires.1)
+add_row-requires c = record { rows_before = c.loop-l.invariant.0; no_round = c.requires.no_round }
 
 pub loop-l-preserved : goal.loop-l-preserved
 loop-l-preserved c = (

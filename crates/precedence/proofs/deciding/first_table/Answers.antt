@@ -25,7 +25,7 @@ returns-then-not-add_periods c = record {
 }
 
 pub add_sections-requires : goal.add_sections-requires
-add_sections-requires c = (c.add_periods.ensures.more c.if-not-add_periods.false, not-true _ (sym c.add_periods.ensures.calm ∙ c.if-not-add_periods.false))
+add_sections-requires c = record { after_periods = c.add_periods.ensures.more c.if-not-add_periods.false; calm = not-true _ (sym c.add_periods.ensures.calm ∙ c.if-not-add_periods.false) }
 
 pub returns-then-not-add_sections : goal.returns-then-not-add_sections
 returns-then-not-add_sections c = record {
@@ -35,11 +35,8 @@ returns-then-not-add_sections c = record {
 }
 
 pub all_rows-requires : goal.all_rows-requires
-all_rows-requires c = (
-  c.add_sections.ensures.more c.if-not-add_sections.false,
-  no_rounds (scene c.args.x.now) (not-true _ (sym c.add_periods.ensures.calm ∙ c.if-not-add_periods.false))
-      (not-true _ (sym c.add_sections.ensures.calm ∙ c.if-not-add_sections.false)),
-)
+all_rows-requires c = record { after_sections = c.add_sections.ensures.more c.if-not-add_sections.false; no_round = no_rounds (scene c.args.x.now) (not-true _ (sym c.add_periods.ensures.calm ∙ c.if-not-add_periods.false))
+      (not-true _ (sym c.add_sections.ensures.calm ∙ c.if-not-add_sections.false)) }
 
 pub returns : goal.returns
 returns c =

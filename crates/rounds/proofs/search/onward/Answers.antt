@@ -8,7 +8,7 @@ use Rattle.rounds.proofs.Searching.{onward_period, onward_section, raised_some}
 use Rattle.rounds.proofs.search.onward.Goals as goal
 
 pub raise-requires : goal.raise-requires
-raise-requires c = omega (arith, most_le 64 254 (bit c.args.up) (cells c.args.row.now) (λ k l e. omega (arith, c.requires.0 k)))
+raise-requires c = omega (arith, most_le 64 254 (bit c.args.up) (cells c.args.row.now) (λ k l e. omega (arith, c.requires.rows_fit k)))
 
 pub holder-requires : goal.holder-requires
 holder-requires c =

@@ -16,10 +16,7 @@ loop-i-init c =
 pub onward-step-requires : goal.onward-step-requires
 unfolding sheet
 onward-step-requires c =
-    let way = c.approaches-ways.ensures (c.args.steps - 1 - c.loop-i.i) (omega arith) in (
-      (λ b. subst (λ (f : ℕ → ℕ). f b < 255) (sym way) (tally_byte (rel c.args.up.now) (rel c.args.down.now) (c.args.steps - 1 - c.loop-i.i) c.args.start b (omega (arith, c.requires.1.1.0)))),
-      trail_goes _ _ _ _ _ _ _ _ (omega arith) c.loop-i.invariant _ _ _ c.row.ensures c.row-in-loop-i.ensures way,
-    )
+    let way = c.approaches-ways.ensures (c.args.steps - 1 - c.loop-i.i) (omega arith) in record { rows_fit = (λ b. subst (λ (f : ℕ → ℕ). f b < 255) (sym way) (tally_byte (rel c.args.up.now) (rel c.args.down.now) (c.args.steps - 1 - c.loop-i.i) c.args.start b (omega (arith, c.requires.1.1.0)))); some_way = trail_goes _ _ _ _ _ _ _ _ (omega arith) c.loop-i.invariant _ _ _ c.row.ensures c.row-in-loop-i.ensures way }
 
 pub loop-i-preserved : goal.loop-i-preserved
 unfolding sheet

@@ -10,7 +10,7 @@ use Rattle.basis.proofs.kinds.Base.of.Goals as goal
 
 pub located-requires : goal.located-requires
 unfolding accesses
-located-requires c = (c.grouped-groups.ensures.places, either_is c.reading-reads.result c.writing-writes.result _ _ c.reading-reads.ensures c.writing-writes.ensures)
+located-requires c = record { grouped = c.grouped-groups.ensures.places; all_accesses = either_is c.reading-reads.result c.writing-writes.result _ _ c.reading-reads.ensures c.writing-writes.ensures }
 
 pub invariant_of-result : goal.invariant_of-result
 invariant_of-result c =
