@@ -19,14 +19,14 @@ use Rattle.rulings.proofs.judging.allow.Goals as goal
 pub places-requires : goal.places-requires
 places-requires c =
     let m = c.args.model.now in
-    subst Acyclic (sym (same_rel (rel m.per_place) (per_place (held m)) m.per_place_is)) c.requires.1.0
+    subst Acyclic (sym (same_rel (rel m.per_place) (per_place (held m)) m.per_place_is)) c.requires.both_kept.0
 
 pub places-requires-in-Some : goal.places-requires-in-Some
 places-requires-in-Some c =
     let b = held c.args.model.now in
     let F = table c.in-Some.first.rows in
-    joint_acyclic b F _ (subst Sound c.requires.0 (sound c.args.setting.now)) c.requires.1.1
-    (cases_at c.args.table.now c.in-Some.first ⊥ (λ (t : FirstTable). Acyclic (enlarged (scene b) (table t.rows))) c.in-Some.is c.requires.2) c.joint-joint.ensures.pairs
+    joint_acyclic b F _ (subst Sound c.requires.same_scene (sound c.args.setting.now)) c.requires.both_kept.1
+    (cases_at c.args.table.now c.in-Some.first ⊥ (λ (t : FirstTable). Acyclic (enlarged (scene b) (table t.rows))) c.in-Some.is c.requires.orderable) c.joint-joint.ensures.pairs
 
 pub returns : goal.returns
 returns c =

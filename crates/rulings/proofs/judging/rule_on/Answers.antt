@@ -23,12 +23,7 @@ allow-requires c =
     let same = c.setting-setting.ensures.same in
     let none = c.in-None.ensures in
     let k = all_kept r (sym none) in
-    let d = decided (setting.scene c.setting-setting.result) (scene b) t same c.first_table-table.ensures.rule c.first_table-table.ensures.first c.first_table-table.ensures.words in (
-      same,
-      (says_kept r.scpv (Scpv b) k.0 (c.report_all-reports.ensures ScpvRule), says_kept r.hb (Hb b) k.2 (c.report_all-reports.ensures HbRule)),
-      orderable b r t c.report_all-reports.ensures d none,
-      c.requires,
-    )
+    let d = decided (setting.scene c.setting-setting.result) (scene b) t same c.first_table-table.ensures.rule c.first_table-table.ensures.first c.first_table-table.ensures.words in record { same_scene = same; both_kept = (says_kept r.scpv (Scpv b) k.0 (c.report_all-reports.ensures ScpvRule), says_kept r.hb (Hb b) k.2 (c.report_all-reports.ensures HbRule)); orderable = orderable b r t c.report_all-reports.ensures d none; room = c.requires }
 
 pub returns-in-Some : goal.returns-in-Some
 returns-in-Some c =
