@@ -8,7 +8,7 @@ pub returns : goal.returns
 returns c =
     let d = c.enter.ensures.does in
     record {
-      steps = (case_after _ _ _ _ d, answered _ _ _ _ d entered_answer c.entered_answer.result c.entered_answer.ensures);
+      steps = (case_after _ _ _ _ d, answered _ _ _ _ d entered_answer c.entered-answer.result c.entered-answer.ensures);
       formed = tt;
       exact = stays_exact _ _ _ _ d;
     }

@@ -8,7 +8,7 @@ pub returns : goal.returns
 returns c =
     let d = c.tie.ensures.does in
     record {
-      steps = (case_after _ _ _ _ d, answered _ _ _ _ d done_answer c.done_answer.result c.done_answer.ensures);
+      steps = (case_after _ _ _ _ d, answered _ _ _ _ d done_answer c.done-answer.result c.done-answer.ensures);
       formed = tt;
       exact = stays_exact _ _ _ _ d;
     }
