@@ -4,7 +4,6 @@ use mathlib.Core.Path.{fun_ext}
 use Rattle.std.proofs.lemmas.List.{get_or_past}
 use Rattle.std.proofs.lemmas.Bool.{both_ways, cases_Bool, cases_eq, cases_lt, cases_order, and_parts, and_from, and_left, and_right, not-true, not_from_false, ltb-true, lt-ltb, le-ltb, eqb-true, eq-eqb, ne_eqb, lt-leb, le-leb, cond-false, cond-true, cond_both}
 use Rattle.std.proofs.lemmas.Bool.Decides.{nat_tests}
-use Rattle.rows.specs.Row.{any}
 use Rattle.rows.proofs.Any.{any_from, any_some}
 use Rattle.relations.specs.Algebra.{Rel, empty, union, pair, product, within, only}
 use Rattle.relations.proofs.Tables.{both_same, never}

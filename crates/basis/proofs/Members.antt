@@ -1,20 +1,20 @@
 -- What the rows of events have: by thread, by place and by sort.
-use Rattle.std.proofs.Common.{◌≡◌, ℕ, ◌+◌, ◌-◌, ◌^◌, ◌<◌, ◌≤◌, Bool, true, false, not, ◌&&◌, ◌||◌, eqb, ltb, leb, List, length, get_or, sym, refl, ap, ◌∙◌, subst, ap₂, inl, inr, ⊎_elim, arith}
+use Rattle.std.proofs.Common.{◌≡◌, ℕ, ◌+◌, ◌-◌, ◌^◌, ◌<◌, ◌≤◌, true, false, ◌&&◌, ◌||◌, eqb, ltb, leb, List, get_or, sym, refl, ap, ◌∙◌, subst, ap₂, ⊎_elim, arith}
 use mathlib.Core.Path.{fun_ext}
 use lib.Bits.{bit_and, bit_or}
 use Rattle.std.proofs.lemmas.List.{get_or_past}
-use Rattle.std.proofs.lemmas.Bool.{cases_lt, cases_Bool, eq-eqb, eqb-true, lt-ltb, le-ltb, ltb-true, ltb-false, leb-true, and_parts, and_from, and_left, and_right, both_ways, or_cases, or_left, or_right, not-true, not_from_false}
+use Rattle.std.proofs.lemmas.Bool.{cases_lt, eq-eqb, eqb-true, lt-ltb, le-ltb, ltb-true, leb-true, and_parts, and_from, and_left, and_right, both_ways, or_cases, or_left, or_right, not-true, not_from_false}
 use Rattle.rows.specs.Row.{Set, bit, adding, below}
-use Rattle.rows.proofs.Bits.{bit-bit_and, bit-bit_or, bit_not, bit_zero, bit_outside, bit_inside}
-use Rattle.relations.specs.Algebra.{Rel, union, identity}
+use Rattle.rows.proofs.Bits.{bit-bit_and, bit-bit_or, bit_not, bit_zero, bit_inside}
+use Rattle.relations.specs.Algebra.{union, identity}
 use Rattle.relations.specs.Table.{On}
-use Rattle.relations.proofs.Tables.{both_same, never}
+use Rattle.relations.proofs.Tables.{both_same}
 use Rattle.executions.specs.declared.events.Event.{Event}
 use Rattle.executions.specs.declared.sorts.Sort.{Sort}
 use Rattle.executions.specs.declared.sorts.Sort.TheVariants.{ReadOnce, ReadAcquire, WriteOnce, WriteRelease, Rmb, Wmb, Mb, RbDep, RcuLock, RcuUnlock, SyncRcu, Blank}
 use Rattle.executions.specs.declared.ties.Relation.{Relation}
 use Rattle.executions.specs.Sorts.{sort_number}
-use Rattle.executions.specs.Events.{is, is_read, is_write, in_program}
+use Rattle.executions.specs.Events.{is_read, is_write, in_program}
 use Rattle.executions.specs.Execution.{Execution, count, event_at, unused}
 use Rattle.basis.specs.Groups.{Grouped}
 use Rattle.basis.specs.Meaning.{po, same_thread, int, loc, tied, accesses, of_sort}

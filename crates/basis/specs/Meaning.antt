@@ -1,5 +1,5 @@
 -- The basis of a candidate execution.
-use Rattle.std.specs.Prelude.{ℕ, Bool, ◌&&◌, ◌||◌, ◌==◌, nat_lt}
+use Rattle.std.specs.Prelude.{◌&&◌, ◌||◌, ◌==◌, nat_lt}
 use Rattle.rows.specs.Row.{Set}
 use Rattle.relations.specs.Algebra.{Rel, identity, union, plus}
 use Rattle.executions.specs.declared.sorts.Sort.{Sort}

@@ -3,6 +3,8 @@
 //     bench            a checksum of each case's result, the same each time
 //     bench time       the time of each case
 //     bench only N     runs the case N alone, many times, for a count of its instructions; with N past the last, what the program itself costs
+#![tactic(auto)]
+
 mod cases;
 
 use cases::{CASES, Case, Operation, input, numbered, run};

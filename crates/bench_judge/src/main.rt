@@ -3,6 +3,8 @@
 //     bench_judge             the rulings
 //     bench_judge time        how long one ruling takes
 //     bench_judge only N R    judges case N (0, 1 or 2) R times, for a count of its instructions
+#![tactic(auto)]
+
 mod cases;
 
 use anyhow::anyhow;

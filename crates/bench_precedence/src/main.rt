@@ -1,5 +1,7 @@
 // Decides Rcu for 20 sections and 22 grace periods in 64 events, and finds a round of 32 steps where it is broken.
 // Without an argument it says what came out; with the argument `time`, how long it took.
+#![tactic(auto)]
+
 mod scenes;
 
 use precedence::first_table;

@@ -3,6 +3,8 @@
 //     bench_text           how many ties and bytes each has, and whether it comes back the same
 //     bench_text time      how long each step of each takes
 //     bench_text only N S  runs step S of case N ten times, for a count of its instructions; with S past the last, what the rest costs
+#![tactic(auto)]
+
 mod cases;
 mod steps;
 

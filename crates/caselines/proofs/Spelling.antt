@@ -1,5 +1,5 @@
 -- The line that bytes spell is the one line with that spelling.
-use Rattle.std.proofs.Common.{◌≡◌, ℕ, ◌^◌, ◌<◌, Bool, true, false, cond, List, [], ◌∷◌, ◌++◌, Some, None, codes, decimal, Option, sym, refl, ap, ◌∙◌, subst, ap₂, arith}
+use Rattle.std.proofs.Common.{◌≡◌, ℕ, ◌<◌, Bool, true, false, cond, List, Some, None, codes, decimal, Option, sym, refl, ap, ◌∙◌, subst, ap₂, arith}
 use Rattle.std.specs.Str.{bytes_eq}
 use Rattle.executions.specs.declared.sorts.Sort.{Sort}
 use Rattle.executions.specs.declared.ties.Relation.{Relation}
@@ -11,7 +11,7 @@ use Rattle.caselines.specs.declared.lines.Line.{Line}
 use Rattle.caselines.specs.declared.lines.Line.TheVariants.{Events, Event, Ties, Tie}
 use Rattle.caselines.specs.Fields.{then, cut, number_of, called}
 use Rattle.caselines.specs.Lines.{letter, mark, letters, letter_name, sorts_of, spaced, placed, spelled, Place, Plain, access_from, event_from, tie_from, line_from, line_of, Named}
-use Rattle.caselines.proofs.Cutting.{absent, absent_append, cut_append, cut_halves}
+use Rattle.caselines.proofs.Cutting.{absent, cut_append, cut_halves}
 use Rattle.caselines.proofs.Numbering.{number_decimal, number_written, absent_decimal}
 use Rattle.caselines.proofs.Wording.{same_word, called_name, sort_letter, mark_found, mark_clear, letter_clear, name_clear}
 

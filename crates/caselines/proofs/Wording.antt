@@ -1,5 +1,5 @@
 -- Words: which of some names a word is.
-use Rattle.std.proofs.Common.{◌≡◌, ℕ, Bool, true, false, cond, ◌&&◌, eqb, List, [], ◌∷◌, length, get_or, Some, None, codes, Option, sym, refl, ap, ◌∙◌, arith}
+use Rattle.std.proofs.Common.{◌≡◌, ℕ, Bool, true, false, cond, ◌&&◌, eqb, List, [], ◌∷◌, length, get_or, Some, None, Option, sym, refl, ap, ◌∙◌, arith}
 use Rattle.std.specs.Str.{bytes_eq}
 use Rattle.std.proofs.lemmas.Slice.Eq.{bytes_eq-Decides}
 use Rattle.std.proofs.lemmas.Bool.{ne_eqb}
@@ -7,7 +7,7 @@ use Rattle.executions.specs.declared.sorts.Sort.{Sort}
 use Rattle.executions.specs.declared.sorts.Sort.TheVariants.{ReadOnce, ReadAcquire, WriteOnce, WriteRelease, Rmb, Wmb, Mb, RbDep, RcuLock, RcuUnlock, SyncRcu, Blank}
 use Rattle.executions.specs.declared.ties.Relation.{Relation}
 use Rattle.executions.specs.declared.ties.Relation.TheVariants.{Rf, Co, Addr, Data, Ctrl, Rmw}
-use Rattle.executions.specs.Ties.{relations, relation_name}
+use Rattle.executions.specs.Ties.{relation_name}
 use Rattle.caselines.specs.declared.lines.Letter.{Letter}
 use Rattle.caselines.specs.declared.lines.Letter.TheVariants.{Read, Write, Fence}
 use Rattle.caselines.specs.Fields.{called}

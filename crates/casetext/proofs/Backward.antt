@@ -1,5 +1,5 @@
 -- A text that is accepted is the text of the case that was read.
-use Rattle.std.proofs.Common.{◌≡◌, ℕ, ◌+◌, ◌-◌, ◌<◌, ◌≤◌, min, Bool, true, false, cond, ◌&&◌, ◌||◌, eqb, ltb, leb, ◌⊎◌, List, [], ◌∷◌, ◌++◌, length, Some, None, Ok, Err, Option, Result, sym, refl, ap, ◌∙◌, subst, ap₂, subst₂, inl, inr, ⊎_elim, arith}
+use Rattle.std.proofs.Common.{◌≡◌, ℕ, ◌+◌, ◌-◌, ◌<◌, ◌≤◌, min, Bool, true, false, cond, ◌&&◌, ◌||◌, eqb, ltb, leb, List, [], ◌∷◌, ◌++◌, length, Some, None, Ok, Err, Option, Result, sym, refl, ap, ◌∙◌, subst, ap₂, subst₂, ⊎_elim, arith}
 use Rattle.std.specs.List.{flat_map}
 use Rattle.std.proofs.lemmas.List.{append-nil, append_assoc, length_push, flat_map_more}
 use Rattle.std.proofs.lemmas.Bool.{and_parts, or_cases, eqb-true, eqb-false, leb-true, ltb-false, cases_eq, both_ways}
@@ -16,12 +16,11 @@ use Rattle.executions.specs.Ties.{relation_number}
 use Rattle.tables.specs.Plain.{Plain, blank, entered, tied, pair, enter_plain, tie_plain}
 use Rattle.caselines.specs.declared.lines.Line.{Line}
 use Rattle.caselines.specs.declared.lines.Line.TheVariants.{Events, Event, Ties, Tie}
-use Rattle.caselines.specs.Lines.{spelled}
 use Rattle.casetext.specs.declared.kinds.Reader.{Reader}
 use Rattle.casetext.specs.declared.kinds.Section.{Section}
 use Rattle.casetext.specs.declared.kinds.Section.TheVariants.{Start, InEvents, InTies}
 use Rattle.casetext.specs.declared.kinds.TextFault.{TextFault}
-use Rattle.casetext.specs.Text.{event_lines, ties_below, ties_in, lines_of, line, text_of}
+use Rattle.casetext.specs.Text.{event_lines, ties_in, line, text_of}
 use Rattle.casetext.specs.Reading.{Step, text_fault, moved, unfit, answered, entry, record_of, rank, event_step, ties_step, tie_step, in_section, line_step, start, done, empty, finish, onward, scan}
 use Rattle.casetext.specs.Entered.{Case}
 use Rattle.casetext.proofs.Accepting.{enter_accepted, tie_accepted, Ties as Entry}

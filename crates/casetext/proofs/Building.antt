@@ -1,5 +1,5 @@
 -- What is entered and tied one by one is a case.
-use Rattle.std.proofs.Common.{◌≡◌, ℕ, ◌+◌, ◌<◌, ◌≤◌, Bool, true, false, ◌&&◌, ◌||◌, eqb, ◌⊎◌, List, [], ◌∷◌, ◌++◌, length, Some, None, Option, sym, refl, ap, ◌∙◌, subst, ap₂, subst₂, inl, inr, ⊎_elim, arith}
+use Rattle.std.proofs.Common.{◌≡◌, ℕ, ◌<◌, true, false, ◌&&◌, ◌||◌, eqb, ◌⊎◌, [], ◌∷◌, ◌++◌, Some, Option, sym, refl, ap, ◌∙◌, subst, subst₂, inl, inr, ⊎_elim, arith}
 use Rattle.std.proofs.lemmas.List.{length_push}
 use Rattle.std.proofs.ByRecursion.{All-push}
 use Rattle.std.proofs.lemmas.Bool.{and_parts, or_cases, or_parts, or_left, or_right, eqb-true, both_ways}
@@ -7,9 +7,9 @@ use Rattle.rows.specs.Row.{any}
 use Rattle.rows.proofs.Any.{any_from}
 use Rattle.executions.specs.declared.events.Event.{Event}
 use Rattle.executions.specs.declared.ties.Relation.{Relation}
-use Rattle.executions.specs.declared.ties.Relation.TheVariants.{Rf, Co, Addr, Data, Ctrl, Rmw}
+use Rattle.executions.specs.declared.ties.Relation.TheVariants.{Rf, Rmw}
 use Rattle.executions.specs.Events.{in_range}
-use Rattle.executions.specs.Execution.{Execution, Ties, count, event_at}
+use Rattle.executions.specs.Execution.{Execution, count, event_at}
 use Rattle.executions.specs.Ties.{relation_number, relation_of, fits}
 use Rattle.tables.specs.Plain.{blank, full, taken, pair}
 use Rattle.casetext.specs.Entered.{Case, Stands}

@@ -1,5 +1,5 @@
 -- What calls do, one after another.
-use Rattle.std.proofs.Common.{◌≡◌, ℕ, ◌+◌, ◌-◌, ◌<◌, ◌≤◌, Bool, true, false, cond, eqb, ltb, List, length, take, drop, Some, None, Ok, Err, Option, Result, sym, refl, ap, ◌∙◌, subst, ap₂, arith}
+use Rattle.std.proofs.Common.{◌≡◌, ℕ, ◌+◌, ◌-◌, ◌<◌, ◌≤◌, eqb, ltb, List, length, take, drop, Some, None, Ok, Err, Option, Result, sym, refl, ap, ◌∙◌, subst, arith}
 use Rattle.std.proofs.lemmas.List.{length-take, drop-set-lt}
 use Rattle.std.proofs.lemmas.Bool.{cond-true, cond-false, ne_eqb, le-ltb, lt-ltb}
 use Rattle.rows.specs.Row.{adding}
@@ -12,7 +12,7 @@ use Rattle.executions.specs.Ties.{relation_number}
 use Rattle.executions.specs.Words.{word_at}
 use Rattle.executions.proofs.Words.{number_range}
 use Rattle.tables.specs.Plain.{Plain, enter_plain, tie_plain}
-use Rattle.tables.specs.Tables.{Tables, plain_of, Exact, Represents, Does, Written}
+use Rattle.tables.specs.Tables.{Tables, plain_of, Represents, Does, Written}
 use Rattle.caselines.specs.declared.lines.Line.{Line}
 use Rattle.caselines.specs.Lines.{line_of}
 use Rattle.casetext.specs.declared.kinds.Located.{Located}

@@ -1,9 +1,9 @@
 -- The text of a case is accepted, and gives the case.
-use Rattle.std.proofs.Common.{◌≡◌, ℕ, zero, suc, ◌+◌, ◌-◌, ◌*◌, ◌/◌, ◌%◌, ◌^◌, ◌<◌, ◌≤◌, min, Bool, true, false, cond, not, ◌&&◌, ◌||◌, eqb, ltb, leb, ◌⊎◌, List, [], ◌∷◌, ◌++◌, length, Some, None, Ok, Err, codes, decimal, Option, Result, sym, refl, ap, ◌∙◌, subst, ap₂, subst₂, inl, inr, ⊎_elim, add-one, arith}
+use Rattle.std.proofs.Common.{◌≡◌, ℕ, zero, suc, ◌+◌, ◌-◌, ◌/◌, ◌%◌, ◌<◌, ◌≤◌, min, Bool, true, false, cond, not, ◌&&◌, ◌||◌, eqb, ltb, leb, ◌⊎◌, List, [], ◌∷◌, ◌++◌, length, Some, None, Ok, codes, decimal, Option, sym, refl, ap, ◌∙◌, subst, ap₂, subst₂, inl, inr, ⊎_elim, add-one, arith}
 use mathlib.Core.Path.{fun_ext}
 use Rattle.std.specs.List.{flat_map, AllByRecursion as All}
 use Rattle.std.proofs.lemmas.List.{append-nil, append_assoc, length-append, length_push}
-use Rattle.std.proofs.lemmas.Bool.{and_parts, and_from, or_cases, or_from, eqb-true, eqb-false, eq-eqb, ne_eqb, leb-true, le-leb, lt-leb, lt-ltb, le-ltb, ltb-true, ltb-false, cases_eq, cases_lt, cases_Bool, cond-false, cond-true, both_ways, and_right}
+use Rattle.std.proofs.lemmas.Bool.{and_parts, and_from, or_cases, or_from, eqb-true, eqb-false, eq-eqb, ne_eqb, leb-true, lt-leb, lt-ltb, le-ltb, ltb-true, cases_eq, cases_lt, cases_Bool, cond-false, cond-true, both_ways, and_right}
 use Rattle.rows.specs.Row.{any}
 use Rattle.rows.proofs.Any.{any_some}
 use Rattle.executions.specs.declared.events.Event.{Event as Record}
@@ -17,12 +17,12 @@ use Rattle.executions.specs.Sorts.{numbered, sorts, sort_number, sort_of}
 use Rattle.executions.specs.Ties.{relation_number, relation_name, fits}
 use Rattle.executions.proofs.Numbers.{numbered_found}
 use Rattle.executions.proofs.Words.{number_range}
-use Rattle.tables.specs.Plain.{Plain, Open, blank, short, entered, enter_plain, full, taken, pair, tied, tie_known, tie_plain}
+use Rattle.tables.specs.Plain.{Plain, Open, blank, short, entered, enter_plain, full, taken, pair, tied, tie_plain}
 use Rattle.caselines.specs.declared.lines.Letter.{Letter}
 use Rattle.caselines.specs.declared.lines.Letter.TheVariants.{Read, Write, Fence}
 use Rattle.caselines.specs.declared.lines.Line.{Line}
 use Rattle.caselines.specs.declared.lines.Line.TheVariants.{Events, Event, Ties, Tie}
-use Rattle.caselines.specs.Lines.{letter, mark, letter_name, spaced, placed, spelled, line_of, Place, Plain as Numbered}
+use Rattle.caselines.specs.Lines.{letter, mark, letter_name, spaced, placed, spelled, Place, Plain as Numbered}
 use Rattle.caselines.proofs.Cutting.{absent, absent_append}
 use Rattle.caselines.proofs.Numbering.{absent_decimal}
 use Rattle.caselines.proofs.Wording.{mark_clear, letter_clear, name_clear}
@@ -30,13 +30,12 @@ use Rattle.caselines.proofs.Spelling.{line_back}
 use Rattle.casetext.specs.declared.kinds.Reader.{Reader}
 use Rattle.casetext.specs.declared.kinds.Section.{Section}
 use Rattle.casetext.specs.declared.kinds.Section.TheVariants.{Start, InEvents, InTies}
-use Rattle.casetext.specs.declared.kinds.TextFault.{TextFault}
 use Rattle.casetext.specs.Text.{event_lines, tie_lines, ties_below, ties_in, line, text_of}
-use Rattle.casetext.specs.Reading.{Step, moved, unfit, entry, record_of, rank, event_step, ties_step, tie_step, in_section, line_step, start, done, finish, onward, scan}
+use Rattle.casetext.specs.Reading.{Step, moved, unfit, entry, record_of, rank, event_step, tie_step, in_section, line_step, start, done, finish, onward, scan}
 use Rattle.casetext.specs.Entered.{Case, Stands}
-use Rattle.casetext.proofs.Accepting.{tie_row, tie_tests}
+use Rattle.casetext.proofs.Accepting.{tie_row}
 use Rattle.casetext.proofs.Scanning.{scan_line}
-use Rattle.casetext.proofs.Listing.{key, key_below, key_rank, rank_key, line_if, tie_at, tie_at_key, line_one, lines_more, listed_length}
+use Rattle.casetext.proofs.Listing.{key, key_below, rank_key, line_if, tie_at, tie_at_key, line_one, lines_more, listed_length}
 use Rattle.casetext.proofs.Building.{Same, pair_same}
 use Rattle.casetext.proofs.Backward.{range_small}
 

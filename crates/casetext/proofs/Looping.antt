@@ -1,5 +1,5 @@
 -- The loop over the lines: what is left of a text gives what the whole text gives.
-use Rattle.std.proofs.Common.{◌≡◌, ℕ, ◌+◌, ◌<◌, ◌≤◌, Bool, true, false, cond, ◌&&◌, List, [], ◌∷◌, ◌++◌, length, Some, None, Ok, Err, Result, sym, refl, ap, ◌∙◌, subst, ap₂, subst₂, arith}
+use Rattle.std.proofs.Common.{◌≡◌, ℕ, ◌<◌, Bool, true, false, cond, ◌&&◌, List, [], ◌∷◌, length, Some, None, Ok, Err, Result, sym, refl, ap, ◌∙◌, ap₂, subst₂, arith}
 use Rattle.std.proofs.lemmas.List.{length-append, nil_from_length}
 use Rattle.executions.specs.declared.faults.Cause.TheVariants.{LineForm}
 use Rattle.tables.specs.Plain.{Plain}
@@ -8,7 +8,7 @@ use Rattle.caselines.specs.Fields.{cut}
 use Rattle.caselines.proofs.Cutting.{cut_halves}
 use Rattle.casetext.specs.declared.kinds.Reader.{Reader}
 use Rattle.casetext.specs.declared.kinds.TextFault.{TextFault}
-use Rattle.casetext.specs.Reading.{text_fault, line_step, done, empty, finish, scan}
+use Rattle.casetext.specs.Reading.{text_fault, line_step, done, empty, scan}
 use Rattle.casetext.proofs.Scanning.{scan_cut, scan_end, onward_ok, onward_err, Bounded, line_bounded}
 
 pub exact_more : {A : Type 0} (step : Plain → Plain × A) (t t' : Tables) (r : A) → Does step t t' r → Exact t → Exact t'

@@ -1,5 +1,5 @@
 -- A text that is refused leaves blank tables.
-use Rattle.std.proofs.Common.{◌≡◌, ℕ, Bool, true, false, cond, List, [], ◌∷◌, ◌++◌, length, drop, replicate, Ok, Err, MatchBool, Result, sym, refl, ap, ◌∙◌, subst, ap₂, subst₂, arith}
+use Rattle.std.proofs.Common.{◌≡◌, ℕ, Bool, true, false, cond, List, [], ◌++◌, length, drop, replicate, Ok, Err, Result, sym, refl, ap, ◌∙◌, ap₂, arith}
 use Rattle.std.proofs.lemmas.List.{drop_at, length-replicate}
 use Rattle.executions.specs.declared.events.Event.{Event}
 use Rattle.executions.specs.declared.faults.Cause.TheVariants.{TooShort}
@@ -9,7 +9,7 @@ use Rattle.tables.specs.declared.kinds.OpenCase.{OpenCase}
 use Rattle.tables.specs.Plain.{Plain, blank, short, refusal, open_plain}
 use Rattle.tables.specs.Tables.{tables, plain_of, Opened}
 use Rattle.casetext.specs.declared.kinds.TextFault.{TextFault}
-use Rattle.casetext.specs.Reading.{text_fault, start, scan, read_plain, Tails, Reads}
+use Rattle.casetext.specs.Reading.{text_fault, start, scan, Tails, Reads}
 
 not_opened : (f : Fault) → ◌≡◌ {A = Result Plain Fault} (Err f) (Ok blank) → ⊥
 not_opened f e = let z : ◌≡◌ {A = ℕ} 0 1 = cc in absurd (omega arith)

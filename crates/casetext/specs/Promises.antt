@@ -1,5 +1,5 @@
 -- What reading and writing promise, in the words of the format.
-use Rattle.std.specs.Prelude.{◌≡◌, ℕ, false, List, Ok, Err, Result}
+use Rattle.std.specs.Prelude.{◌≡◌, ℕ, false, List, Ok, Result}
 use Rattle.executions.specs.declared.events.Event.{Event}
 use Rattle.executions.specs.Execution.{Execution}
 use Rattle.tables.specs.declared.kinds.OpenCase.{OpenCase}

@@ -1,5 +1,5 @@
 -- The case text: the bytes of a case, from its events and ties.
-use Rattle.std.specs.Prelude.{ℕ, zero, suc, ◌+◌, ◌/◌, ◌%◌, Bool, cond, ◌&&◌, List, [], ◌∷◌, ◌++◌, length, Some, None, nat_lt}
+use Rattle.std.specs.Prelude.{ℕ, zero, suc, ◌+◌, ◌/◌, ◌%◌, cond, ◌&&◌, List, [], ◌∷◌, ◌++◌, length, Some, None, nat_lt}
 use Rattle.std.specs.List.{flat_map}
 use Rattle.executions.specs.declared.events.Event.{Event as Record}
 use Rattle.executions.specs.Execution.{Execution, count}

@@ -1,3 +1,5 @@
+#![tactic(auto)]
+
 // Texts that are read and texts that are refused.
 #[cfg(test)]
 mod damaged;

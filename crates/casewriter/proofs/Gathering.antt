@@ -1,7 +1,7 @@
 -- The lines of a text, one after another.
-use Rattle.std.proofs.Common.{◌≡◌, ℕ, zero, suc, ◌+◌, ◌/◌, ◌%◌, ◌<◌, ◌≤◌, Bool, true, false, cond, ◌&&◌, ltb, List, [], ◌∷◌, ◌++◌, length, get_or, take, Some, None, Option, sym, refl, ap, ◌∙◌, subst, ap₂, add-one, arith}
+use Rattle.std.proofs.Common.{◌≡◌, ℕ, zero, suc, ◌+◌, ◌/◌, ◌%◌, ◌<◌, ◌≤◌, Bool, false, cond, ◌&&◌, ltb, List, [], ◌∷◌, ◌++◌, length, get_or, take, Some, None, Option, sym, refl, ap, ◌∙◌, ap₂, add-one, arith}
 use Rattle.std.specs.List.{flat_map}
-use Rattle.std.proofs.lemmas.List.{append-nil, append_assoc, take_more, take_all, flat_map_more, length-append, length-take}
+use Rattle.std.proofs.lemmas.List.{append-nil, append_assoc, take_more, take_all, flat_map_more, length-append}
 use Rattle.std.proofs.lemmas.Bool.{lt-ltb, le-ltb, and_right, and_left}
 use Rattle.executions.specs.declared.events.Event.{Event as Record}
 use Rattle.executions.specs.declared.ties.Relation.{Relation}
@@ -10,8 +10,7 @@ use Rattle.executions.specs.Ties.{relation_of}
 use Rattle.caselines.specs.declared.lines.Line.{Line}
 use Rattle.caselines.specs.declared.lines.Line.TheVariants.{Events, Ties, Tie}
 use Rattle.casetext.specs.Text.{event_lines, tie_lines, ties_below, ties_in, line, text_of}
-use Rattle.casewriter.specs.Laid.{listed, Put, Bare}
-use Rattle.casewriter.proofs.Laying.{then_put, spelled_so}
+use Rattle.casewriter.specs.Laid.{listed, Bare}
 
 joined_append : {X A : Type 0} (f : X → List A) (xs ys : List X) → flat_map f (xs ++ ys) ≡ flat_map f xs ++ flat_map f ys
 joined_append f [] ys = refl

@@ -6,8 +6,7 @@ use Rattle.executions.specs.declared.ties.Relation.{Relation}
 use Rattle.executions.specs.Ties.{relation_name}
 use Rattle.caselines.specs.declared.lines.Letter.{Letter}
 use Rattle.caselines.specs.declared.lines.Letter.TheVariants.{Read, Write, Fence}
-use Rattle.caselines.specs.declared.lines.Line.{Line}
-use Rattle.caselines.specs.declared.lines.Line.TheVariants.{Events, Event, Ties, Tie}
+use Rattle.caselines.specs.declared.lines.Line.TheVariants.{Event, Tie}
 use Rattle.caselines.specs.Lines.{letter, mark, letter_name, placed, spelled}
 use Rattle.casetext.specs.Text.{line}
 use Rattle.casewriter.specs.Laid.{place_field}

@@ -1,4 +1,6 @@
 // Writing the text of a case.
+#![tactic(auto)]
+
 pub mod bytes;
 pub mod lines;
 pub mod texts;

@@ -1,5 +1,7 @@
 // Builds one candidate execution by calls and shows every way in which these calls decline.
 // For each step it prints what was asked and what was answered, and at the end what the tables hold.
+#![tactic(auto)]
+
 mod report;
 
 use executions::{Event, Sort};

@@ -1,5 +1,5 @@
 -- Which three bytes are an event, and what kind of event.
-use Rattle.std.specs.Prelude.{ℕ, Bool, ◌&&◌, ◌||◌, ◌==◌, nat_le}
+use Rattle.std.specs.Prelude.{Bool, ◌&&◌, ◌||◌, ◌==◌, nat_le}
 use Rattle.executions.specs.declared.events.Event.{Event}
 use Rattle.executions.specs.declared.sorts.Sort.{Sort}
 use Rattle.executions.specs.declared.sorts.Sort.TheVariants.{ReadOnce, ReadAcquire, WriteOnce, WriteRelease, Rmb, Blank}

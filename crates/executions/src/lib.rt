@@ -1,4 +1,6 @@
 // A candidate execution: the sorts of its events, the ties between them, and the faults by which the bench declines.
+#![tactic(auto)]
+
 pub mod events;
 pub mod faults;
 pub mod sorts;

@@ -1,4 +1,6 @@
 // The grace-period law: readers and grace periods, put in an order. Each function's contract is a theorem.
+#![tactic(auto)]
+
 ghost use Rattle.grace.specs.Law.{PrecedenceLaw};
 ghost use Rattle.grace.specs.First.{FirstTableLaw, OnlyFirst};
 ghost use Rattle.grace.specs.ByRow.{RowLaw};

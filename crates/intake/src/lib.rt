@@ -1,4 +1,6 @@
 // From standard input to a sealed case: what the programs on case texts begin with.
+#![tactic(auto)]
+
 pub mod input;
 pub mod kinds;
 pub mod reading;

@@ -1,4 +1,6 @@
 // Judges a candidate execution: reads its case text from standard input and prints the ruling.
+#![tactic(auto)]
+
 use casewriter::front;
 use intake::fill;
 use rulings::SheetRow;

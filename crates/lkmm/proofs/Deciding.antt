@@ -1,5 +1,5 @@
 -- Rules decided on the relations of the code.
-use Rattle.std.proofs.Common.{◌≡◌, Bool, Decides, sym, ap, ◌∙◌, subst}
+use Rattle.std.proofs.Common.{Bool, Decides, subst}
 use mathlib.Core.Path.{fun_ext}
 use Rattle.relations.specs.Algebra.{Rel}
 use Rattle.relations.specs.Chains.{Acyclic}

@@ -1,8 +1,7 @@
 -- The relations of a model fit together for the grace-period law.
-use Rattle.std.proofs.Common.{◌≡◌, ℕ, true, sym, refl, ap, ◌∙◌}
-use mathlib.Core.Path.{fun_ext}
+use Rattle.std.proofs.Common.{◌≡◌, refl, ◌∙◌}
 use Rattle.std.proofs.lemmas.Bool.{or_right}
-use Rattle.relations.specs.Algebra.{Rel, union}
+use Rattle.relations.specs.Algebra.{union}
 use Rattle.relations.specs.View.{rel, size}
 use Rattle.grace.specs.Scene as Scenes
 use Rattle.settings.specs.Parts.{Fit, scene_of}

@@ -1,8 +1,8 @@
 -- Read-modify-writes that are split, found in the rows of the code.
-use Rattle.std.proofs.Common.{◌≡◌, ℕ, ◌+◌, ◌<◌, ◌≤◌, Bool, true, false, not, ◌&&◌, is_some, Some, None, Decides, Option, sym, refl, ap, ◌∙◌, subst, ap₂, ⊎_elim, arith, MatchOption}
+use Rattle.std.proofs.Common.{◌≡◌, ℕ, ◌<◌, ◌≤◌, true, false, ◌&&◌, Some, None, Option, sym, ap, ◌∙◌, ap₂, ⊎_elim, arith, MatchOption}
 use mathlib.Core.Path.{fun_ext}
 use lib.Bits.{bit_and}
-use Rattle.std.proofs.lemmas.Bool.{and_parts, and_from, and_left, both_ways, cases_lt}
+use Rattle.std.proofs.lemmas.Bool.{and_parts, and_left, both_ways, cases_lt}
 use Rattle.rows.specs.Row.{Set, bit, any, Lowest}
 use Rattle.rows.proofs.Any.{any_some}
 use Rattle.rows.proofs.Bits.{bit-bit_and}

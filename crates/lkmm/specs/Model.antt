@@ -1,6 +1,5 @@
 -- The relations of the Linux-kernel memory model, line by line as Alglave, Maranget, McKenney, Parri and Stern publish them
 -- (ASPLOS 2018). Each name is theirs. Everything is over a basis: program order, reads-from, coherence and so on.
-use Rattle.std.specs.Prelude.{ℕ}
 use Rattle.relations.specs.Algebra.{Set, Rel, union, inter, diff, inverse, seq, plus, opt, star, product, from, to}
 use Rattle.basis.specs.Basis.{Basis, id, ext}
 

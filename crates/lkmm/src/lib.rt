@@ -1,4 +1,6 @@
 // The Linux-kernel memory model: its derived relations and its rules.
+#![tactic(auto)]
+
 mod atomicity;
 mod communications;
 mod fences;

@@ -1,6 +1,6 @@
 -- Relays of one kind, added one after another as long as none makes a round.
-use Rattle.std.proofs.Common.{◌≡◌, ℕ, zero, suc, ◌+◌, ◌<◌, ◌≤◌, Bool, true, false, not, sym, refl, ap, ◌∙◌, subst, ⊎_elim, add-one, arith}
-use Rattle.std.proofs.lemmas.Bool.{cases_eq, not-true, not-false, false≢true}
+use Rattle.std.proofs.Common.{◌≡◌, ℕ, suc, ◌+◌, ◌<◌, Bool, true, false, not, sym, refl, ap, ◌∙◌, subst, ⊎_elim, add-one, arith}
+use Rattle.std.proofs.lemmas.Bool.{cases_eq, not-true, not-false}
 use Rattle.relations.specs.Algebra.{Set, any}
 use Rattle.rows.proofs.Any.{any_from}
 use Rattle.grace.specs.Scene.{Scene, Sound}

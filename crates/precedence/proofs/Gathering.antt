@@ -1,12 +1,12 @@
 -- A word gathered event by event: those below i that pass a test.
-use Rattle.std.proofs.Common.{◌≡◌, ℕ, ◌+◌, ◌<◌, ◌≤◌, Bool, true, false, ◌&&◌, ◌||◌, eqb, ltb, sym, refl, ap, ◌∙◌, ⊎_elim, arith}
+use Rattle.std.proofs.Common.{◌≡◌, ℕ, ◌+◌, ◌<◌, ◌≤◌, Bool, true, false, ◌&&◌, ◌||◌, eqb, ltb, sym, ap, ◌∙◌, ⊎_elim, arith}
 use mathlib.Core.Path.{fun_ext}
 use Rattle.std.proofs.lemmas.Bool.{and_parts, and_from, and_left, or_cases, or_left, or_right, eqb-true, eq-eqb, ltb-true, lt-ltb, le-ltb, cases_eq, both_ways}
 use Rattle.rows.specs.Row.{Set, bit, adding}
 use Rattle.rows.proofs.Bits.{bit_zero}
 use Rattle.relations.specs.Algebra.{any, within}
 use Rattle.rows.proofs.Any.{any_some, any_from}
-use Rattle.relations.proofs.Tables.{both_same, never}
+use Rattle.relations.proofs.Tables.{both_same}
 
 pub gather_none : (t : Set) → bit 0 ≡ within 0 t
 unfolding within

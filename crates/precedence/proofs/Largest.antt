@@ -1,7 +1,7 @@
 -- The largest value over a set.
-use Rattle.std.proofs.Common.{◌≡◌, ℕ, zero, suc, ◌<◌, ◌≤◌, max, Bool, true, false, cond, sym, refl, ap, ◌∙◌, subst, ⊎_elim, arith}
+use Rattle.std.proofs.Common.{◌≡◌, ℕ, zero, suc, ◌<◌, ◌≤◌, max, true, false, cond, sym, ap, ◌∙◌, subst, ⊎_elim, arith}
 use Rattle.std.proofs.lemmas.Bool.{cases_Bool, cases_eq, cond-true, cond-false, both_ways}
-use Rattle.rows.specs.Row.{Set, bit, dropping, Lowest}
+use Rattle.rows.specs.Row.{Set, dropping, Lowest}
 use Rattle.rows.proofs.Words.{dropped_parts, dropped_from}
 use Rattle.grace.specs.Sheet.{most}
 

@@ -1,7 +1,6 @@
 -- The test of a round, by the word of the events that close one.
-use Rattle.std.proofs.Common.{◌≡◌, ℕ, ◌+◌, ◌<◌, ◌≤◌, Bool, true, false, ◌&&◌, leb, sym, ap, ◌∙◌, arith}
+use Rattle.std.proofs.Common.{◌≡◌, ℕ, ◌+◌, Bool, false, ◌&&◌, leb, sym, ap, ◌∙◌}
 use mathlib.Core.Path.{fun_ext}
-use Rattle.rows.specs.Row.{bit}
 use Rattle.relations.specs.Algebra.{Set, any, within}
 use Rattle.grace.specs.Sheet.{Sheet, most, relayed, turns}
 use Rattle.grace.proofs.Sheets.{relayed_idle}

@@ -1,4 +1,6 @@
 // Which goes first, reader or grace period: Rcu decided, the first precedence table found, and pb enlarged by a table.
+#![tactic(auto)]
+
 mod balances;
 mod deciding;
 mod enlarging;

@@ -1,5 +1,7 @@
 // Rules on the published executions and asks for what stands at the limits of a case.
 // For each it prints what is expected and what came, and at the end how many agree.
+#![tactic(auto)]
+
 mod judged;
 mod kinds;
 mod limits;

@@ -1,6 +1,6 @@
 -- The algebra of relations on events, in which the model is written.
 -- Events are numbers below 64. A relation is given by its test, so every definition here computes.
-use Rattle.std.specs.Prelude.{ℕ, zero, suc, Bool, true, false, cond, not, ◌&&◌, ◌||◌, ◌==◌, nat_lt}
+use Rattle.std.specs.Prelude.{ℕ, zero, suc, Bool, false, cond, not, ◌&&◌, ◌||◌, ◌==◌, nat_lt}
 pub use Rattle.rows.specs.Row.{Set}
 unfoldable pub use Rattle.rows.specs.Row.{any}
 

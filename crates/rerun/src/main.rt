@@ -1,5 +1,7 @@
 // A run of the bench, call by call: RCU-MP is built, sealed and judged; then it is reopened, a read is moved to another write, and it is sealed and
 // judged again. Some calls do not fit the state or are refused, and change nothing.
+#![tactic(auto)]
+
 mod calls;
 
 use calls::{CALLS, COUNT};

@@ -1,5 +1,5 @@
 -- How many of the marks are periods.
-use Rattle.std.proofs.Common.{◌≡◌, ℕ, zero, suc, ◌+◌, ◌<◌, ◌≤◌, Bool, true, false, List, [], ◌∷◌, length, get_or, sym, refl, ap, ◌∙◌, ap₂, arith}
+use Rattle.std.proofs.Common.{◌≡◌, ℕ, zero, suc, ◌+◌, ◌<◌, Bool, true, false, List, [], ◌∷◌, length, get_or, sym, refl, ap, ap₂, arith}
 use Rattle.rows.specs.Row.{Set, count, tick}
 use Rattle.rounds.specs.declared.kinds.Mark.{Mark}
 use Rattle.rounds.specs.declared.kinds.Mark.TheVariants.{Period, Section}

@@ -1,10 +1,9 @@
 -- Layers: how far the tallies reach, and that they are as large as any walk.
-use Rattle.std.proofs.Common.{◌≡◌, ℕ, zero, suc, ◌+◌, ◌-◌, ◌*◌, ◌<◌, ◌≤◌, max, Bool, true, false, eqb, List, length, get_or, set, sym, refl, ap, ◌∙◌, subst, ⊎_elim, arith}
-use mathlib.Core.Path.{fun_ext}
+use Rattle.std.proofs.Common.{◌≡◌, ℕ, zero, suc, ◌+◌, ◌-◌, ◌*◌, ◌<◌, ◌≤◌, Bool, true, false, eqb, List, length, get_or, set, sym, refl, ap, ◌∙◌, ⊎_elim, arith}
 use Rattle.std.proofs.lemmas.List.{get_or-set_same, get_or-set_other}
 use Rattle.std.proofs.lemmas.Bool.{cases_eq, eq-eqb, ne_eqb}
-use Rattle.rows.specs.Row.{Set, tick}
-use Rattle.relations.specs.Algebra.{Rel, seq}
+use Rattle.rows.specs.Row.{tick}
+use Rattle.relations.specs.Algebra.{Rel}
 use Rattle.grace.specs.Scene.{Scene, Sound, gp, rscs, link}
 use Rattle.grace.specs.Law.{Walk, Walk.here, Walk.by_period, Walk.by_section}
 use Rattle.grace.specs.Sheet.{most}

@@ -1,7 +1,7 @@
 -- Rounds as closed walks: rotated, cut where an event stands twice, and so the shortest.
-use Rattle.std.proofs.Common.{◌≡◌, ℕ, zero, suc, ◌+◌, ◌-◌, ◌*◌, ◌<◌, ◌≤◌, Bool, true, false, cond, ltb, ◌⊎◌, List, length, get_or, sym, refl, ap, ◌∙◌, subst, subst₂, inl, inr, ⊎_elim, arith}
+use Rattle.std.proofs.Common.{◌≡◌, ℕ, zero, suc, ◌+◌, ◌-◌, ◌*◌, ◌<◌, ◌≤◌, true, cond, ltb, List, length, get_or, sym, refl, ap, ◌∙◌, subst, subst₂, ⊎_elim, arith}
 use Rattle.std.proofs.lemmas.Bool.{cond-true, cond-false, lt-ltb, le-ltb, cases_lt, cases_order}
-use Rattle.rows.specs.Row.{Set, count, tick}
+use Rattle.rows.specs.Row.{count, tick}
 use Rattle.relations.specs.Algebra.{Rel}
 use Rattle.grace.specs.Scene.{Scene, Sound}
 use Rattle.grace.specs.Law.{Walk, Walk.here, Walk.by_period, Walk.by_section, Rcu}

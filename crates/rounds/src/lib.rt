@@ -1,4 +1,6 @@
 // A shortest round of Rcu, with the mark of each of its steps.
+#![tactic(auto)]
+
 mod kinds;
 mod layers;
 mod marks;

@@ -1,4 +1,5 @@
 // Reads a case text from standard input, seals the case, writes it back, and says what came of it.
+#![tactic(auto)]
 
 mod accounts;
 mod kinds;

@@ -1,5 +1,5 @@
 -- A search for a number below n that is in a set.
-use Rattle.std.proofs.Common.{◌≡◌, ℕ, zero, suc, ◌+◌, ◌<◌, ◌≤◌, Bool, true, false, ◌||◌, sym, refl, ap, ◌∙◌, subst, ⊎_elim, le_antisymm, add-one, arith}
+use Rattle.std.proofs.Common.{◌≡◌, ℕ, zero, suc, ◌+◌, ◌<◌, ◌≤◌, true, false, sym, refl, ap, ◌∙◌, subst, ⊎_elim, le_antisymm, add-one, arith}
 use Rattle.std.proofs.lemmas.Bool.{cases_eq, or_cases, or_from, or_left, or_right, false≢true}
 use Rattle.rows.specs.Row.{Set, any}
 

@@ -1,5 +1,7 @@
 // A row: a set of numbers below 64 in one 64-bit word, bit b set when b is in the set.
 // A relation on at most 64 events is kept as one such row of targets for each event.
+#![tactic(auto)]
+
 ghost use Rattle.std.specs.Prelude.{◌≡◌, ℕ, ◌≤◌, false, MatchOption};
 ghost use Rattle.rows.specs.Row.{bit, adding, dropping, below, count, Lowest};
 

@@ -1,14 +1,14 @@
 -- The promise of a ruling, put together from what its steps leave.
-use Rattle.std.proofs.Common.{◌≡◌, ℕ, ◌<◌, ◌≤◌, Bool, true, false, cond, not, ◌&&◌, ltb, ◌↔◌, List, [], length, get_or, drop, replicate, is_some, IfSome, Some, None, Decides, MatchBool, Option, sym, refl, ap, ◌∙◌, subst, ap₂, ⊎_elim, arith, MatchOption}
+use Rattle.std.proofs.Common.{◌≡◌, ℕ, ◌<◌, Bool, true, false, ◌&&◌, ltb, ◌↔◌, List, [], length, get_or, drop, replicate, is_some, IfSome, Some, None, Decides, MatchBool, Option, sym, refl, ap, ◌∙◌, subst, ⊎_elim, arith, MatchOption}
 use mathlib.Core.Path.{fun_ext}
 use lib.ListN.{get_or-replicate}
-use Rattle.std.proofs.lemmas.Bool.{and_parts, and_from, both_ways, false≢true, cases_lt, lt-ltb, le-ltb}
+use Rattle.std.proofs.lemmas.Bool.{and_parts, and_from, false≢true, cases_lt, le-ltb}
 use Rattle.rows.specs.Row.{bit}
 use Rattle.relations.specs.Algebra.{Rel, union}
 use Rattle.relations.specs.Chains.{Acyclic}
 use Rattle.relations.specs.Table.{table}
 use Rattle.grace.specs.Scene.{Scene, Sound, pb}
-use Rattle.grace.specs.Law.{Table, Rcu, pair, pairs, enlarged}
+use Rattle.grace.specs.Law.{Table, Rcu, pair, enlarged}
 use Rattle.grace.specs.First.{First}
 use Rattle.grace.specs.Deciding.{first_table, row as table_row}
 use Rattle.grace.proofs.Joint.{joint_order_law}
@@ -23,12 +23,11 @@ use Rattle.rulings.specs.declared.kinds.Reports.{Reports}
 use Rattle.rulings.specs.declared.kinds.Breach.{Breach}
 use Rattle.rulings.specs.declared.kinds.Verdict.TheVariants.{Allowed, Forbidden}
 use Rattle.rulings.specs.declared.kinds.Rule.{Rule}
-use Rattle.rulings.specs.declared.kinds.Rule.TheVariants.{Scpv, At, Hb, Pb, Rcu as RcuRule}
-use Rattle.rulings.specs.declared.kinds.Ruling.{Ruling}
+use Rattle.rulings.specs.declared.kinds.Rule.TheVariants.{Pb, Rcu as RcuRule}
 use Rattle.rulings.specs.declared.kinds.SheetRow.{SheetRow}
 use Rattle.rulings.specs.declared.pages.Page.{Page}
 use Rattle.rulings.specs.Pages.{Column, PageOf, OrderIn, Drawn, Listing}
-use Rattle.rulings.specs.Rules.{Keeps, RoundOf}
+use Rattle.rulings.specs.Rules.{RoundOf}
 use Rattle.rulings.specs.Rulings.{Says, Reported, first_broken, verdict_of, kept, both_kept, row, words, FirstWords, Lists, Forbids, Allows, Shows, Ruled}
 use Rattle.rulings.specs.Steps.{Breached, Orderable, AllowedBy}
 use Rattle.rulings.specs.Tables.{Decided, words_of}

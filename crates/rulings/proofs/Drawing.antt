@@ -1,8 +1,7 @@
 -- The sheet written row by row, and orders as columns.
-use Rattle.std.proofs.Common.{◌≡◌, ℕ, ◌+◌, ◌<◌, ◌≤◌, true, List, length, get_or, take, set, sym, refl, ap, ◌∙◌, subst, ap₂, ⊎_elim, arith, get_or-set_other, get_or-set_same}
+use Rattle.std.proofs.Common.{◌≡◌, ℕ, ◌+◌, ◌<◌, List, length, get_or, take, set, sym, ◌∙◌, subst, ⊎_elim, arith, get_or-set_other, get_or-set_same}
 use Rattle.std.proofs.lemmas.List.{get_or-take, get_or_default, length-take-le}
 use Rattle.std.proofs.lemmas.Bool.{cases_eq}
-use Rattle.relations.specs.Algebra.{Rel}
 use Rattle.relations.specs.View.{rel, size}
 use Rattle.relations.specs.declared.kinds.Relation.{Relation}
 use Rattle.relations.proofs.Ranges.{on_rel}

@@ -1,8 +1,8 @@
 -- The events that a relation leads from.
-use Rattle.std.proofs.Common.{◌≡◌, ℕ, ◌-◌, ◌^◌, Bool, true, ◌&&◌, sym, ap, ◌∙◌}
+use Rattle.std.proofs.Common.{◌≡◌, ℕ, ◌-◌, ◌^◌, true, ◌&&◌, ap, ◌∙◌}
 use mathlib.Core.Path.{fun_ext}
 use Rattle.std.proofs.lemmas.Bool.{and_parts, and_from}
-use Rattle.rows.specs.Row.{Set, bit, any}
+use Rattle.rows.specs.Row.{bit, any}
 use Rattle.rows.proofs.Any.{any_some, any_from}
 use Rattle.rows.proofs.Bits.{bit_ones}
 use Rattle.relations.specs.Algebra.{Rel, inverse, image}

@@ -1,10 +1,8 @@
 -- Rounds of the model's rules, found in the relations of the code.
-use Rattle.std.proofs.Common.{◌≡◌, ℕ, ◌<◌, true, sym, refl, ap, ◌∙◌, subst, arith}
+use Rattle.std.proofs.Common.{◌≡◌, ℕ, ◌<◌, ◌∙◌, subst}
 use mathlib.Core.Path.{fun_ext}
-use Rattle.std.proofs.lemmas.Bool.{and_parts}
 use Rattle.relations.specs.Algebra.{Rel}
 use Rattle.relations.specs.Chains.{Acyclic}
-use Rattle.relations.specs.View.{rel, size}
 use Rattle.relations.proofs.Ranges.{on_all}
 use Rattle.grace.specs.Scene.{Scene}
 use Rattle.grace.specs.Law.{Rcu}
@@ -12,11 +10,9 @@ use Rattle.settings.specs.Parts.{Same}
 use Rattle.lkmm.specs.Held.{held}
 use Rattle.lkmm.specs.Rules.{IsAtRound}
 use Rattle.lkmm.specs.declared.kinds.Model.{Model}
-use Rattle.rulings.specs.Pages.{PageOf}
 use Rattle.basis.specs.Basis.{Basis}
-use Rattle.rulings.specs.Rules.{CycleRound, MarkedRound, Keeps, RoundOf}
+use Rattle.rulings.specs.Rules.{Keeps}
 use Rattle.rulings.specs.declared.kinds.Rule.{Rule}
-use Rattle.rulings.specs.declared.pages.Page.{Page}
 
 pub same_rel : (r s : Rel) → Same r s → r ≡ s
 same_rel r s h = fun_ext λ a. fun_ext λ b. h a b

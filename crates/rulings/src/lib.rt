@@ -1,4 +1,6 @@
 // Rulings: judge, and the sheet that it fills.
+#![tactic(auto)]
+
 pub mod judging;
 pub mod kinds;
 pub mod names;

@@ -1,3 +1,5 @@
+#![tactic(auto)]
+
 // Examples of rulings: the sheet, what judge refuses, and other sources than the tables.
 #[cfg(test)]
 mod sheets;

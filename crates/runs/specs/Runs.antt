@@ -1,11 +1,9 @@
 -- Runs: what each call of a list does to the plain case beside the tables, and what it answers.
-use Rattle.std.specs.Prelude.{◌≡◌, ℕ, true, List, [], ◌∷◌, ◌++◌, Ok, Err, MatchBool, Result, nat_lt}
+use Rattle.std.specs.Prelude.{◌≡◌, ℕ, List, [], ◌∷◌, ◌++◌, Ok, Err, MatchBool, Result, nat_lt}
 use Rattle.executions.specs.declared.faults.Fault.{Fault}
 use Rattle.sources.specs.Source.{bounded}
 use Rattle.tables.specs.Plain.{Plain, Mark, Open, Sealed, blank, enter_plain, tie_plain, untie_plain, seal_plain, reopen_plain}
 use Rattle.basis.specs.Meaning.{basis}
-use Rattle.rulings.specs.declared.kinds.Ruling.{Ruling}
-use Rattle.rulings.specs.declared.kinds.SheetRow.{SheetRow}
 use Rattle.rulings.specs.Rulings.{Ruled as RuledBy, too_short}
 use Rattle.runs.specs.declared.kinds.Call.{Call}
 use Rattle.runs.specs.declared.kinds.Call.TheVariants.{Enter, Tie, Untie, Seal, Reopen, Judge}

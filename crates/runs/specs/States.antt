@@ -1,5 +1,5 @@
 -- What a state and two tables stand for.
-use Rattle.std.specs.Prelude.{◌≡◌, ℕ, min, Bool, true, false, List, length, take, drop, None, Ok, Err, Result}
+use Rattle.std.specs.Prelude.{◌≡◌, ℕ, min, List, length, take, drop, None, Ok, Err, Result}
 use Rattle.executions.specs.declared.events.Event.{Event}
 use Rattle.executions.specs.declared.faults.Fault.{Fault}
 use Rattle.sources.specs.Source.{bounded}

@@ -1,4 +1,6 @@
 // Runs of the bench: lists of calls on one case and its two tables.
+#![tactic(auto)]
+
 pub mod kinds;
 pub mod running;
 mod steps;

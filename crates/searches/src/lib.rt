@@ -1,4 +1,6 @@
 // Searches in a relation: a shortest cycle, or an order of its events.
+#![tactic(auto)]
+
 mod cycles;
 mod kinds;
 mod orders;

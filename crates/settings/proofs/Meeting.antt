@@ -1,10 +1,10 @@
 -- Words that have an event in common, and words that lie in others.
 use Rattle.std.proofs.Common.{◌≡◌, ℕ, ◌-◌, ◌^◌, ◌<◌, ◌≤◌, Bool, true, false, not, ◌&&◌, eqb, ltb, Decides, sym, refl, ap, ◌∙◌, ⊎_elim, arith}
 use lib.Bits.{bit_and}
-use Rattle.std.proofs.lemmas.Bool.{and_parts, and_from, both_ways, cases_Bool, eq-eqb, ne_eqb, eqb-true, not_from_true, not_from_false, not-true, not-false, ltb-true, lt-ltb}
+use Rattle.std.proofs.lemmas.Bool.{and_parts, and_from, both_ways, cases_Bool, eq-eqb, ne_eqb, not_from_false, not-true, ltb-true, lt-ltb}
 use Rattle.rows.specs.Row.{Set, bit, below}
 use Rattle.settings.specs.Parts.{Inside}
-use Rattle.rows.proofs.Bits.{bit-bit_and, bit_not, bit_zero, bit_inside, bit_outside}
+use Rattle.rows.proofs.Bits.{bit-bit_and, bit_not, bit_zero, bit_inside}
 use Rattle.rows.proofs.Words.{no_bits}
 use Rattle.relations.specs.Algebra.{any}
 use Rattle.rows.proofs.Any.{any_some, any_from}

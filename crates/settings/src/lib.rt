@@ -1,4 +1,6 @@
 // What the grace-period law is asked about: a setting, and the relations and sets that the law is written in.
+#![tactic(auto)]
+
 mod kinds;
 mod parts;
 mod words;

@@ -1,6 +1,5 @@
 -- What a cut hides.
 use Rattle.std.specs.Prelude.{ℕ, Bool, not, ◌&&◌, ◌==◌, nat_le}
-use Rattle.executions.specs.declared.ties.Relation.{Relation}
 use Rattle.executions.specs.declared.ties.Relation.TheVariants.{Addr, Ctrl}
 use Rattle.executions.specs.Execution.{Execution}
 use Rattle.executions.specs.Ties.{relation_number}

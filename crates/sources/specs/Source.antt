@@ -1,5 +1,5 @@
 -- What the answers of a case source mean.
-use Rattle.std.specs.Prelude.{ℕ, Bool, false, ◌&&◌, Some, None, nat_lt}
+use Rattle.std.specs.Prelude.{ℕ, false, ◌&&◌, Some, None, nat_lt}
 use Rattle.rows.specs.Row.{Set}
 use Rattle.executions.specs.Execution.{Execution, count}
 use Rattle.executions.specs.Ties.{relation_of}

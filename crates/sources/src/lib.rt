@@ -1,4 +1,6 @@
 // Case sources: where a candidate execution comes from, and layers that show another one in its place.
+#![tactic(auto)]
+
 pub mod asked;
 pub mod cut;
 pub mod kinds;

@@ -1,16 +1,11 @@
 -- What the tables hold after a call, and that nothing stands past the case.
-use Rattle.std.proofs.Common.{◌≡◌, ℕ, ◌+◌, ◌^◌, ◌<◌, ◌≤◌, Bool, true, false, cond, not, ◌&&◌, ◌||◌, eqb, ltb, leb, ◌⊎◌, List, [], ◌∷◌, ◌++◌, length, get_or, take, set, replicate, Ok, Err, Result, sym, refl, ap, ◌∙◌, subst, ap₂, inl, inr, ⊎_elim, arith}
+use Rattle.std.proofs.Common.{◌≡◌, ℕ, ◌+◌, ◌<◌, ◌≤◌, Bool, true, false, cond, not, ltb, leb, List, [], ◌++◌, length, get_or, take, set, replicate, Ok, sym, refl, ap, ◌∙◌, subst, ap₂, ⊎_elim, arith}
 use mathlib.Core.Path.{fun_ext}
-use Rattle.std.proofs.lemmas.List.{take_more_set, get_or-set_other, get_or-set_same, length-take-le, get_or_append_left, get_or-replicate, length-replicate}
-use Rattle.std.proofs.lemmas.Bool.{or_parts, ltb-false, lt-leb, le-ltb, lt-ltb, eq-eqb, ne_eqb, cases_lt, cases_eq}
-use Rattle.rows.specs.Row.{bit, adding, dropping}
-use Rattle.rows.proofs.Bits.{bit_zero, bit_outside}
+use Rattle.std.proofs.lemmas.List.{take_more_set, get_or-set_other, length-take-le, get_or_append_left, get_or-replicate, length-replicate}
+use Rattle.std.proofs.lemmas.Bool.{or_parts, ltb-false, lt-leb, cases_lt}
 use Rattle.executions.specs.declared.events.Event.{Event}
-use Rattle.executions.specs.declared.faults.Fault.{Fault}
 use Rattle.executions.specs.declared.ties.Relation.{Relation}
-use Rattle.executions.specs.declared.ties.Relation.TheVariants.{Rf, Co, Addr, Data, Ctrl, Rmw}
 use Rattle.executions.specs.Events.{in_range}
-use Rattle.executions.specs.Ties.{relation_number}
 use Rattle.executions.specs.Execution.{unused}
 use Rattle.executions.specs.Words.{ties_of}
 use Rattle.executions.proofs.Words.{word_within, no_word, no_event}

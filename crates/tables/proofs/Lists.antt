@@ -1,5 +1,5 @@
 -- Lists that are set to one value from the front.
-use Rattle.std.proofs.Common.{◌≡◌, ℕ, ◌+◌, ◌<◌, List, [], ◌∷◌, ◌++◌, length, drop, set, replicate, sym, refl, ap, ◌∙◌}
+use Rattle.std.proofs.Common.{◌≡◌, ℕ, ◌+◌, ◌<◌, List, [], ◌∷◌, ◌++◌, length, drop, set, replicate, sym, ap, ◌∙◌}
 use Rattle.std.proofs.lemmas.List.{drop_more, set_at, append_assoc, replicate_more, length-replicate}
 
 -- one element more

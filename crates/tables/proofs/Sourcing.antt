@@ -1,12 +1,12 @@
 -- What the tables answer as a case source.
-use Rattle.std.proofs.Common.{◌≡◌, ℕ, ◌^◌, ◌<◌, ◌≤◌, min, Bool, true, false, ◌&&◌, ltb, List, length, get_or, take, Some, None, Option, sym, refl, ap, ◌∙◌, subst, ⊎_elim, arith}
+use Rattle.std.proofs.Common.{◌≡◌, ℕ, ◌^◌, ◌<◌, ◌≤◌, min, Bool, true, false, ◌&&◌, ltb, List, length, get_or, take, Some, None, Option, sym, refl, ap, ◌∙◌, subst, arith}
 use mathlib.Core.Path.{fun_ext}
 use Rattle.std.specs.List.{slice_get}
 use Rattle.std.proofs.lemmas.List.{get_or-take, get_or_past, length-take}
 use Rattle.std.proofs.lemmas.Option.{slice_get-get_or, slice_get_past}
-use Rattle.std.proofs.lemmas.Bool.{lt-ltb, le-ltb, cases_lt}
+use Rattle.std.proofs.lemmas.Bool.{lt-ltb, le-ltb}
 use Rattle.rows.specs.Row.{Set, bit}
-use Rattle.rows.proofs.Bits.{bit_zero, bit_outside}
+use Rattle.rows.proofs.Bits.{bit_zero}
 use Rattle.executions.specs.declared.events.Event.{Event}
 use Rattle.executions.specs.declared.ties.Relation.{Relation}
 use Rattle.executions.specs.Execution.{unused}

@@ -1,7 +1,7 @@
 -- The plain case that goes beside the two tables, and what each call does to it.
 -- Of the tables a call sees here just the lengths. Each call is tested for its causes in order; the first that is met is
 -- the answer and changes nothing.
-use Rattle.std.specs.Prelude.{ℕ, Bool, false, cond, not, ◌&&◌, ◌||◌, List, [], ◌∷◌, ◌++◌, Some, None, Ok, Err, Result, ◌==◌, nat_le, nat_lt}
+use Rattle.std.specs.Prelude.{ℕ, Bool, false, cond, not, ◌&&◌, ◌||◌, [], ◌∷◌, ◌++◌, Some, None, Ok, Err, Result, ◌==◌, nat_le, nat_lt}
 use Rattle.rows.specs.Row.{any}
 use Rattle.executions.specs.declared.events.Event.{Event}
 use Rattle.executions.specs.declared.faults.Cause.{Cause}

@@ -1,6 +1,6 @@
 -- How the two tables hold a plain case, and what a call promises of them.
-use Rattle.std.specs.Prelude.{◌≡◌, ℕ, ◌+◌, ◌-◌, ◌*◌, ◌<◌, ◌≤◌, Bool, true, false, cond, ◌&&◌, List, [], ◌∷◌, ◌++◌, length, take, drop, replicate, Ok, Err, Result, slice_index, slice_index_or, slice_set}
-use Rattle.rows.specs.Row.{Set, bit, adding, dropping}
+use Rattle.std.specs.Prelude.{◌≡◌, ℕ, ◌+◌, ◌<◌, ◌≤◌, true, false, List, ◌++◌, length, take, drop, replicate, Ok, Err, Result, slice_index, slice_index_or, slice_set}
+use Rattle.rows.specs.Row.{Set, bit}
 use Rattle.executions.specs.declared.events.Event.{Event}
 use Rattle.executions.specs.declared.faults.Fault.{Fault}
 use Rattle.executions.specs.declared.ties.Relation.{Relation}

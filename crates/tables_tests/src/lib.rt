@@ -1,3 +1,5 @@
+#![tactic(auto)]
+
 // Examples for the calls that build a case: the bounds of each table and of each number, and what a refusal leaves.
 #[cfg(test)]
 mod tests {

@@ -1,4 +1,6 @@
 // Judging the case of a text, and telling the ruling.
+#![tactic(auto)]
+
 pub mod printing;
 pub mod texts;
 

@@ -1,12 +1,12 @@
 -- What the tables hold after a text was scanned, and the answers from them.
-use Rattle.std.proofs.Common.{◌≡◌, ℕ, ◌^◌, ◌<◌, ◌≤◌, Bool, true, false, ◌&&◌, ltb, List, [], ◌∷◌, ◌++◌, length, get_or, take, drop, replicate, Some, None, Ok, Err, MatchBool, Option, Result, sym, refl, ap, ◌∙◌, subst, ap₂, subst₂, ⊎_elim, arith}
+use Rattle.std.proofs.Common.{◌≡◌, ℕ, ◌^◌, ◌<◌, ◌≤◌, Bool, true, false, ◌&&◌, ltb, List, [], ◌++◌, length, get_or, take, drop, replicate, Some, None, Ok, Err, MatchBool, Option, Result, sym, refl, ap, ◌∙◌, subst, ap₂, subst₂, ⊎_elim, arith}
 use mathlib.Core.Path.{fun_ext}
 use Rattle.std.specs.List.{slice_get}
 use Rattle.std.proofs.lemmas.List.{get_or_append_left, get_or-replicate, length-replicate, get_or-take, length-take-le}
 use Rattle.std.proofs.lemmas.Option.{slice_get-get_or, slice_get_past}
 use Rattle.std.proofs.lemmas.Bool.{lt-ltb, le-ltb, cases_lt}
-use Rattle.rows.specs.Row.{Set, bit}
-use Rattle.rows.proofs.Bits.{bit_zero, bit_outside}
+use Rattle.rows.specs.Row.{bit}
+use Rattle.rows.proofs.Bits.{bit_zero}
 use Rattle.executions.specs.declared.events.Event.{Event}
 use Rattle.executions.specs.declared.ties.Relation.{Relation}
 use Rattle.executions.specs.Execution.{Execution, Ties, unused}
@@ -16,7 +16,6 @@ use Rattle.executions.proofs.Words.{word_within, no_word, no_event, tied_when}
 use Rattle.sources.specs.Source.{bounded, targets}
 use Rattle.tables.specs.declared.kinds.OpenCase.{OpenCase}
 use Rattle.tables.specs.Plain.{Plain, blank, short}
-use Rattle.tables.specs.Tables.{tables, plain_of}
 use Rattle.casetext.specs.declared.kinds.TextFault.{TextFault}
 use Rattle.casetext.specs.Reading.{read_plain, Reads}
 use Rattle.textsource.specs.Meaning.{meant, holding}

@@ -1,4 +1,6 @@
 // A case text as a case source.
+#![tactic(auto)]
+
 ghost use Rattle.std.specs.Prelude.{◌≡◌, ℕ, ◌<◌, ◌≤◌, length};
 ghost use Rattle.rows.specs.Row.{bit};
 ghost use Rattle.executions.specs.Words.{ties_of};

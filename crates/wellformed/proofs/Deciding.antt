@@ -1,10 +1,10 @@
 -- No fault comes exactly when the execution is well formed.
-use Rattle.std.proofs.Common.{◌≡◌, ℕ, ◌+◌, ◌-◌, ◌<◌, ◌≤◌, Bool, true, false, cond, not, ◌&&◌, ◌||◌, eqb, ltb, ◌⊎◌, Some, None, Option, sym, refl, ap, ◌∙◌, subst, inl, inr, ⊎_elim, arith}
-use Rattle.std.proofs.lemmas.Bool.{both_ways, not-true, not-false, and_parts, and_from, and_left, and_right, or_cases, or_parts, or_right, ltb-true, ltb-false, lt-ltb, le-ltb, eqb-true, eqb-false, eq-eqb, ne_eqb, cases_eq, cases_lt, cases_Bool}
+use Rattle.std.proofs.Common.{◌≡◌, ℕ, ◌+◌, ◌-◌, ◌<◌, ◌≤◌, Bool, true, false, cond, not, ◌&&◌, ◌||◌, eqb, ltb, ◌⊎◌, Some, None, sym, refl, ap, subst, inl, inr, ⊎_elim, arith}
+use Rattle.std.proofs.lemmas.Bool.{both_ways, not-true, not-false, and_parts, and_from, or_right, ltb-true, ltb-false, lt-ltb, le-ltb, eqb-true, eqb-false, eq-eqb, ne_eqb, cases_eq, cases_lt, cases_Bool}
 use Rattle.std.proofs.lemmas.Bool.Decides.{nat_tests}
 use Rattle.rows.specs.Row.{Set, any, count as many}
 use Rattle.rows.proofs.Any.{any_from, any_some}
-use Rattle.relations.specs.Algebra.{Rel, plus}
+use Rattle.relations.specs.Algebra.{plus}
 use Rattle.relations.specs.Chains.{Chain}
 use Rattle.relations.specs.Table.{On}
 use Rattle.relations.proofs.Closure.{closure_decides}
@@ -13,14 +13,14 @@ use Rattle.executions.specs.declared.faults.Cause.TheVariants.{TooManyEvents, Ou
 use Rattle.executions.specs.declared.faults.Fault.{Fault}
 use Rattle.executions.specs.declared.ties.Relation.{Relation}
 use Rattle.executions.specs.declared.ties.Relation.TheVariants.{Rf, Co, Addr, Data, Ctrl, Rmw}
-use Rattle.executions.specs.Events.{in_range, is_read, is_write, is_fence}
+use Rattle.executions.specs.Events.{in_range, is_read, is_write}
 use Rattle.executions.specs.Execution.{Execution, count, event_at}
 use Rattle.executions.specs.Ties.{fits}
 use Rattle.sources.specs.Source.{bounded}
 use Rattle.wellformed.specs.Events.{accesses, writes, initials, co, unlocks, depth}
 use Rattle.wellformed.specs.Faults.{or_else, first, fault_if, range_fault, one_too_many, pair_fault, tie_fault, row_fault, relation_fault, read_fault, initial_fault, unordered, disordered, coherence_fault, unlock_fault, last_lock, thread_fault, count_fault, events_fault, ties_fault, reads_fault, initials_fault, orders_fault, threads_fault, first_fault}
-use Rattle.wellformed.specs.WellFormed.{Tied, Inside, Stands, OneInitial, Ordered, Paired, WellFormed}
-use Rattle.wellformed.proofs.Counting.{One, one_from_count, count_from_one}
+use Rattle.wellformed.specs.WellFormed.{Tied, Inside, OneInitial, Ordered, Paired, WellFormed}
+use Rattle.wellformed.proofs.Counting.{one_from_count, count_from_one}
 use Rattle.wellformed.proofs.First.{first_clear, first_none_at, neither, both_none, unmet, unmet_by}
 use Rattle.wellformed.proofs.Limits.{false_from, one_rf_from, rf_fine, one_rmw_from, rmw_fine}
 

@@ -1,10 +1,10 @@
 -- The limits on ties: the tests of the check against the words of the subject.
-use Rattle.std.proofs.Common.{◌≡◌, ℕ, ◌<◌, ◌≤◌, Bool, true, false, ◌&&◌, ◌||◌, ltb, ◌⊎◌, sym, refl, ap, ◌∙◌, subst, inl, inr, ⊎_elim, arith}
-use Rattle.std.proofs.lemmas.Bool.{both_ways, or_parts, or_cases, or_left, or_right, and_parts, and_from, lt-ltb, ltb-true, cases_order}
+use Rattle.std.proofs.Common.{◌≡◌, ℕ, ◌<◌, Bool, true, false, ◌&&◌, ◌||◌, ltb, sym, refl, subst, inl, inr, ⊎_elim, arith}
+use Rattle.std.proofs.lemmas.Bool.{both_ways, or_parts, or_cases, and_parts, and_from, lt-ltb, ltb-true, cases_order}
 use Rattle.rows.specs.Row.{any}
 use Rattle.rows.proofs.Any.{any_from, any_some}
 use Rattle.executions.specs.declared.ties.Relation.TheVariants.{Rf, Rmw}
-use Rattle.executions.specs.Execution.{Execution, count}
+use Rattle.executions.specs.Execution.{Execution}
 use Rattle.wellformed.specs.Faults.{stands_before, one_too_many}
 use Rattle.wellformed.specs.WellFormed.{Tied, Stands}
 
@@ -37,11 +37,11 @@ module _ (x : Execution) (inside : (a b : ℕ) → Tied x Rmw a b → b < 64) wh
       let at_d = or_parts (any c (λ k. x.ties Rmw k d)) (ltb d c && any 64 (x.ties Rmw d)) rest.0 in
       ⊎_elim
       (λ p. ⊎_elim (λ q. omega arith)
-      (λ q. let d-is : d ≡ a = omega arith in
-      both_ways _ at_d.1 (and_from _ _ (lt-ltb d c (omega arith)) (any_from 64 b (x.ties Rmw d) (inside a b t) (subst (λ (k : ℕ). x.ties Rmw k b ≡ true) (sym d-is) t)))) v)
+      (λ q. let d_is : d ≡ a = omega arith in
+      both_ways _ at_d.1 (and_from _ _ (lt-ltb d c (omega arith)) (any_from 64 b (x.ties Rmw d) (inside a b t) (subst (λ (k : ℕ). x.ties Rmw k b ≡ true) (sym d_is) t)))) v)
       (λ p. ⊎_elim
-      (λ q. let b-is : b ≡ c = omega arith in both_ways _ at_c.0 (any_from c a (λ k. x.ties Rmw k c) h (subst (λ (k : ℕ). x.ties Rmw a k ≡ true) b-is t)))
-      (λ q. let b-is : b ≡ d = omega arith in both_ways _ at_d.0 (any_from c a (λ k. x.ties Rmw k d) h (subst (λ (k : ℕ). x.ties Rmw a k ≡ true) b-is t))) v)
+      (λ q. let b_is : b ≡ c = omega arith in both_ways _ at_c.0 (any_from c a (λ k. x.ties Rmw k c) h (subst (λ (k : ℕ). x.ties Rmw a k ≡ true) b_is t)))
+      (λ q. let b_is : b ≡ d = omega arith in both_ways _ at_d.0 (any_from c a (λ k. x.ties Rmw k d) h (subst (λ (k : ℕ). x.ties Rmw a k ≡ true) b_is t))) v)
       s
 
   -- of two rmw ties from one event the later one is one too many

@@ -1,10 +1,9 @@
 -- The walk through the ties of a relation.
-use Rattle.std.proofs.Common.{◌≡◌, ℕ, ◌+◌, ◌<◌, ◌≤◌, Bool, true, false, cond, not, ◌&&◌, ◌||◌, eqb, ltb, ◌⊎◌, Some, None, Option, sym, refl, ap, ◌∙◌, subst, ap₂, inl, inr, ⊎_elim, arith}
+use Rattle.std.proofs.Common.{◌≡◌, ℕ, ◌+◌, ◌<◌, Bool, true, false, not, ◌&&◌, ◌||◌, eqb, ltb, ◌⊎◌, None, Option, sym, refl, ap, ◌∙◌, ap₂, inl, inr, ⊎_elim, arith}
 use lib.Bits.{bit_or}
-use Rattle.std.proofs.lemmas.Bool.{cases_eq, cases_lt, eq-eqb, ne_eqb, lt-ltb, le-ltb, both_ways, and_cases, eqb-true, not-false}
-use Rattle.std.proofs.lemmas.Bool.Decides.{nat_tests}
+use Rattle.std.proofs.lemmas.Bool.{cases_eq, cases_lt, eq-eqb, ne_eqb, lt-ltb, le-ltb, and_cases, eqb-true, not-false}
 use Rattle.rows.specs.Row.{Set, bit, any, adding, dropping}
-use Rattle.rows.proofs.Bits.{bit_zero, and_true}
+use Rattle.rows.proofs.Bits.{bit_zero}
 use Rattle.rows.proofs.Any.{any_none}
 use Rattle.executions.specs.declared.faults.Fault.{Fault}
 use Rattle.executions.specs.declared.ties.Relation.{Relation}

@@ -6,7 +6,7 @@ use Rattle.executions.specs.declared.events.Event.{Event}
 use Rattle.executions.specs.declared.sorts.Sort.TheVariants.{RcuLock, RcuUnlock, SyncRcu}
 use Rattle.executions.specs.declared.ties.Relation.TheVariants.{Co}
 use Rattle.executions.specs.Events.{is, is_read, is_write}
-use Rattle.executions.specs.Execution.{Execution, count, event_at}
+use Rattle.executions.specs.Execution.{Execution, event_at}
 
 -- event i is at place p
 abbrev pub at_place : Execution → ℕ → ℕ → Bool

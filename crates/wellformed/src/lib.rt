@@ -1,4 +1,6 @@
 // The check of a whole case: whether a candidate execution is well formed, and its first fault if it is not.
+#![tactic(auto)]
+
 ghost use Rattle.std.specs.Prelude.{◌≡◌};
 ghost use Rattle.sources.specs.Snapshot.{execution};
 ghost use Rattle.sources.specs.Source.{bounded};

@@ -57,7 +57,8 @@ fn unlock_fault(event: Event, thread: usize, depth: usize, i: usize) -> Option<F
 
 // How many locks of the thread are open after an event. The number stops at the largest, which no case reaches, so every call has an answer.
 pub fn depth_after(event: Event, thread: usize, depth: usize) -> usize
-    ensures { result ≡ (if lock_of thread event then min (depth + 1) (2 ^ 64 - 1) else (if unlock_of thread event then pred depth else depth)) }
+    ensures locks { result ≡ (if lock_of thread event then min (depth + 1) (2 ^ 64 - 1) else (if unlock_of thread event then pred depth else depth)) }
+    ensures within { result ≤ depth + 1 }
 {
     if is_lock(event, thread) {
         return depth.saturating_add(1);

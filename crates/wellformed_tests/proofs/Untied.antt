@@ -1,5 +1,5 @@
 -- The rows of an execution without ties.
-use Rattle.std.proofs.Common.{◌≡◌, ℕ, Bool, true, false, ◌&&◌, ltb, List, length, Some, None, Option, sym, refl, ◌∙◌}
+use Rattle.std.proofs.Common.{◌≡◌, ℕ, false, ◌&&◌, ltb, List, length, Some, None, Option, sym, refl, ◌∙◌}
 use mathlib.Core.Path.{fun_ext}
 use Rattle.rows.specs.Row.{bit}
 use Rattle.rows.proofs.Bits.{bit_zero}

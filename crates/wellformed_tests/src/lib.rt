@@ -1,3 +1,5 @@
+#![tactic(auto)]
+
 // Examples for case sources, their layers, the check and sealing; and a source that answers by formula.
 #[cfg(test)]
 mod faults;

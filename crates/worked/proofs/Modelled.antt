@@ -8,7 +8,7 @@ use Rattle.basis.specs.Meaning.{basis, po, int, loc, tied}
 use Rattle.basis.specs.Sections.{crit}
 use Rattle.grace.specs.Scene as Scenes
 use Rattle.grace.specs.Law.{section_first, period_first}
-use Rattle.lkmm.specs.Model.{fr, «com», po_loc, rfi, rfe, «coe», fre, between, mb, rmb, rb_dep, wmb, acq_po, po_rel, rfi_rel_acq, gp, strong_fence, dep, rwdep, overwrite, to_w, rrdep, strong_rrdep, to_r, fence, ppo, cumul_fence, prop, hb, pb, link, rscs}
+use Rattle.lkmm.specs.Model.{fr, «com», po_loc, rfi, rfe, «coe», fre, between, mb, rmb, rb_dep, wmb, acq_po, po_rel, rfi_rel_acq, gp, strong_fence, dep, rwdep, overwrite, to_w, rrdep, strong_rrdep, to_r, fence, ppo, cumul_fence, prop, hb, pb}
 use Rattle.lkmm.specs.Rules.{per_place, broken_rmw, scene}
 use Rattle.rounds.specs.Marks.{period_step, section_step}
 use Rattle.worked.proofs.Rows.{Rows, tab}

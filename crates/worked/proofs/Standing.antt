@@ -1,6 +1,6 @@
 -- The worked examples stand.
 use Rattle.std.proofs.Common.{◌≡◌, ℕ, ◌≤◌, true, arith}
-use Rattle.executions.specs.Execution.{Execution, count}
+use Rattle.executions.specs.Execution.{Execution}
 use Rattle.wellformed.specs.WellFormed.{WellFormed}
 use Rattle.basis.specs.Meaning.{basis}
 use Rattle.grace.specs.Law.{here, by_period, by_section}

@@ -1,5 +1,4 @@
 use Rattle.std.proofs.Common.{◌≡◌, Some, None, sym, ap, ◌∙◌, subst}
-use Rattle.executions.specs.Execution.{Execution}
 use Rattle.sources.specs.Source.{bounded}
 use Rattle.wellformed.specs.Faults.{first_fault}
 use Rattle.wellformed.specs.WellFormed.{Inside}

@@ -3,7 +3,7 @@ use Rattle.rows.specs.Row.{bit}
 use Rattle.relations.specs.View.{rel, size}
 use Rattle.executions.specs.Execution.{count}
 use Rattle.sources.specs.Snapshot.{execution}
-use Rattle.sources.proofs.Copying.{held_few, held_count}
+use Rattle.sources.proofs.Copying.{held_few}
 use Rattle.basis.specs.Meaning.{tied}
 use Rattle.basis.proofs.Filling.{filled_none, tied_more, filled_all}
 use Rattle.basis.proofs.Members.{on_tied}

@@ -20,19 +20,19 @@ loop-i-preserved c =
     let e = c.event-event.result in
     let d = c.loop-i.depth in
     let o = c.loop-i.outermost in
-    let e-is = c.event-event.ensures in
-    let d-is = c.loop-i.invariant.0 in
+    let e_is = c.event-event.ensures in
+    let d_is = c.loop-i.invariant.0 in
     let o_is = c.loop-i.invariant.1 in (
-      depth_more x t i e d c.depth_after-depth.result (omega (arith, held_few c.args.case.now, c.count-i-end.ensures)) e-is d-is
-          c.depth_after-depth.ensures,
-      lock_more x t i e d o c.outermost_after-outermost.result e-is d-is o_is c.outermost_after-outermost.ensures,
+      depth_more x t i e d c.depth_after-depth.result (omega (arith, held_few c.args.case.now, c.count-i-end.ensures)) e_is d_is
+          c.depth_after-depth.ensures.locks,
+      lock_more x t i e d o c.outermost_after-outermost.result e_is d_is o_is c.outermost_after-outermost.ensures,
       elim c.if-is_last_unlock.branch [
         | then-is_last_unlock w ↦ ap rel w.found-is
             ∙ walk_add x t i (size c.loop-i.found) o e d (rel c.args.found.now) (rel c.loop-i.found) _
-            (omega (arith, c.requires, c.loop-i.invariant.3, c.count-i-end.ensures)) e-is d-is o_is c.loop-i.invariant.2
+            (omega (arith, c.requires, c.loop-i.invariant.3, c.count-i-end.ensures)) e_is d_is o_is c.loop-i.invariant.2
             (sym c.is_last_unlock.ensures ∙ w.if-is_last_unlock.true) w.add.ensures.pairs
         | else-is_last_unlock w ↦ ap rel w.found-is
-            ∙ walk_skip x t i e d (rel c.args.found.now) _ e-is d-is c.loop-i.invariant.2 (sym c.is_last_unlock.ensures ∙ w.if-is_last_unlock.false)
+            ∙ walk_skip x t i e d (rel c.args.found.now) _ e_is d_is c.loop-i.invariant.2 (sym c.is_last_unlock.ensures ∙ w.if-is_last_unlock.false)
       ],
       elim c.if-is_last_unlock.branch [
         | then-is_last_unlock w ↦ ap size w.found-is ∙ w.add.ensures.events ∙ c.loop-i.invariant.3

@@ -1,4 +1,4 @@
-use Rattle.std.proofs.Common.{◌≡◌, get_or, sym, ap, ◌∙◌, arith}
+use Rattle.std.proofs.Common.{sym, ap, ◌∙◌, arith}
 use Rattle.caselines.proofs.Wording.{letter_byte, by_byte, no_letter, other_byte}
 use Rattle.caselines.proofs.reading.letter_named.Goals as goal
 

@@ -1,6 +1,6 @@
 use Rattle.std.proofs.Common.{◌≡◌, ℕ, List, Option, sym, ap, ◌∙◌, subst}
 use Rattle.caselines.specs.declared.lines.Line.{Line}
-use Rattle.caselines.specs.Fields.{then, cut}
+use Rattle.caselines.specs.Fields.{then}
 use Rattle.caselines.specs.Lines.{line_of, line_from, Named}
 use Rattle.caselines.proofs.Spelling.{line_named}
 use Rattle.caselines.proofs.reading.read_line.Goals as goal

@@ -1,6 +1,5 @@
-use Rattle.std.proofs.Common.{◌≡◌, length, Ok, Err, Result, sym, refl, ap, ◌∙◌}
+use Rattle.std.proofs.Common.{length, Err, sym, ap, ◌∙◌}
 use Rattle.std.proofs.lemmas.Result.{err_from_is_err_and}
-use Rattle.tables.specs.Plain.{Plain}
 use Rattle.tables.specs.Tables.{tables}
 use Rattle.casetext.specs.declared.kinds.TextFault.{TextFault}
 use Rattle.casetext.specs.Reading.{line_step}

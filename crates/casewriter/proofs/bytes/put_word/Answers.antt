@@ -1,4 +1,4 @@
-use Rattle.std.proofs.Common.{ℕ, ◌+◌, [], sym, ap, subst, arith}
+use Rattle.std.proofs.Common.{ℕ, [], subst, arith}
 use Rattle.casewriter.specs.Laid.{Put}
 use Rattle.casewriter.proofs.Laying.{put_none, word_more, word_all}
 use Rattle.casewriter.proofs.bytes.put_word.Goals as goal

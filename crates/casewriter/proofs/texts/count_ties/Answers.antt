@@ -1,4 +1,4 @@
-use Rattle.std.proofs.Common.{◌≡◌, length, sym, refl, ap, ◌∙◌, arith}
+use Rattle.std.proofs.Common.{length, sym, refl, ap, ◌∙◌, arith}
 use Rattle.sources.specs.Snapshot.{execution}
 use Rattle.casewriter.specs.Laid.{listed}
 use Rattle.casewriter.proofs.Gathering.{counted_more, row_skip, none_below}

@@ -1,4 +1,4 @@
-use Rattle.std.proofs.Common.{◌≡◌, sym, refl, ap, arith}
+use Rattle.std.proofs.Common.{sym, refl, ap, arith}
 use Rattle.std.specs.List.{flat_map}
 use Rattle.sources.specs.Snapshot.{execution}
 use Rattle.casetext.specs.Text.{line}

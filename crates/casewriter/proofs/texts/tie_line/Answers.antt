@@ -1,4 +1,4 @@
-use Rattle.std.proofs.Common.{◌≡◌, ℕ, ◌/◌, ◌%◌, ◌<◌, ◌≤◌, Bool, true, false, sym, ap, ◌∙◌, subst}
+use Rattle.std.proofs.Common.{ℕ, ◌/◌, ◌%◌, ◌<◌, ◌≤◌, true, false, sym, ap, ◌∙◌, subst}
 use Rattle.rows.specs.Row.{Set}
 use Rattle.sources.specs.Snapshot.{execution}
 use Rattle.casewriter.proofs.Gathering.{no_first, no_second, line_there}

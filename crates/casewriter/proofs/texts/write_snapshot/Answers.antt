@@ -1,4 +1,4 @@
-use Rattle.std.proofs.Common.{◌≡◌, ◌≤◌, length, refl, ◌∙◌, arith}
+use Rattle.std.proofs.Common.{◌≤◌, length, ◌∙◌, arith}
 use Rattle.sources.specs.Snapshot.{execution}
 use Rattle.casetext.specs.Text.{text_of}
 use Rattle.casewriter.proofs.Laying.{laid_front}

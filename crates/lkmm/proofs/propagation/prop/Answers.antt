@@ -1,4 +1,4 @@
-use Rattle.std.proofs.Common.{◌≡◌, ap, ◌∙◌, ap₂, arith}
+use Rattle.std.proofs.Common.{◌≡◌, ◌∙◌, ap₂, arith}
 use Rattle.relations.specs.Algebra.{seq, opt, star}
 use Rattle.relations.specs.View.{size}
 use Rattle.lkmm.specs.Model.{prop}

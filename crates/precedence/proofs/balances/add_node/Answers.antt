@@ -1,10 +1,9 @@
-use Rattle.std.proofs.Common.{◌≡◌, ℕ, true, false, not, sym, ap, ◌∙◌, arith}
+use Rattle.std.proofs.Common.{◌≡◌, ℕ, false, not, sym, ap, ◌∙◌}
 use Rattle.std.proofs.lemmas.Bool.{false≢true}
 use Rattle.rows.specs.Row.{bit}
 use Rattle.rows.proofs.Bits.{bit_zero}
-use Rattle.grace.specs.Sheet.{turns}
 use Rattle.grace.proofs.Sheets.{turns_idle}
-use Rattle.precedence.specs.Rows.{sheet, cells}
+use Rattle.precedence.specs.Rows.{sheet}
 use Rattle.precedence.proofs.Turning.{turns_when, relayed_none}
 use Rattle.precedence.proofs.balances.add_node.Goals as goal
 

@@ -1,8 +1,8 @@
-use Rattle.std.proofs.Common.{◌≡◌, ℕ, ◌<◌, ◌≤◌, max, sym, ap, ◌∙◌, subst, ap₂, arith}
+use Rattle.std.proofs.Common.{ℕ, ◌≤◌, max, sym, ap, ◌∙◌, subst, ap₂, arith}
 use mathlib.Core.Path.{fun_ext}
 use Rattle.rows.specs.Row.{bit}
 use Rattle.grace.specs.Sheet.{joined}
-use Rattle.precedence.specs.Rows.{cells, sheet}
+use Rattle.precedence.specs.Rows.{cells}
 use Rattle.precedence.proofs.Cells.{cell_at}
 use Rattle.precedence.proofs.Joining.{rowed_none, rowed_more, rowed_skip, rowed_here, rowed_all, relayed_row, relayed_still, relayed_byte, relayed_far}
 use Rattle.precedence.proofs.balances.add_relay.Goals as goal

@@ -1,4 +1,4 @@
-use Rattle.std.proofs.Common.{◌≡◌, ℕ, ◌+◌, leb, ap, ◌∙◌, arith}
+use Rattle.std.proofs.Common.{◌+◌, leb, ap, ◌∙◌, arith}
 use Rattle.std.proofs.lemmas.Bool.{le-leb, lt-leb}
 use Rattle.rows.specs.Row.{bit}
 use Rattle.precedence.specs.Rows.{cells}

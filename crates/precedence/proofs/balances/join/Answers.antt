@@ -1,4 +1,4 @@
-use Rattle.std.proofs.Common.{sym, ◌∙◌, arith}
+use Rattle.std.proofs.Common.{sym, arith}
 use Rattle.precedence.proofs.Joining.{joined_first, joined_second, joined_both}
 use Rattle.precedence.proofs.balances.join.Goals as goal
 

@@ -1,6 +1,5 @@
-use Rattle.std.proofs.Common.{◌≡◌, ℕ, ◌≤◌, max, sym, ap, ◌∙◌, subst, ap₂, arith}
+use Rattle.std.proofs.Common.{ℕ, ◌≤◌, max, sym, ap, ◌∙◌, subst, ap₂, arith}
 use Rattle.grace.specs.Sheet.{joined}
-use Rattle.precedence.specs.Rows.{cells}
 use Rattle.precedence.proofs.Cells.{cell_at, cell_far, upto_none, upto_more, upto_here, upto_all}
 use Rattle.precedence.proofs.Joining.{joined_second}
 use Rattle.precedence.proofs.balances.join_row.Goals as goal

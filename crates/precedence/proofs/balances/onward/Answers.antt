@@ -1,8 +1,7 @@
-use Rattle.std.proofs.Common.{◌≡◌, ℕ, max, sym, ap, ◌∙◌, arith}
+use Rattle.std.proofs.Common.{ℕ, ap, ◌∙◌, arith}
 use mathlib.Core.Path.{fun_ext}
 use Rattle.rows.specs.Row.{bit}
 use Rattle.rows.proofs.Words.{fewer}
-use Rattle.grace.specs.Sheet.{most}
 use Rattle.precedence.specs.Rows.{cells, sheet}
 use Rattle.precedence.proofs.Cells.{zero_cells}
 use Rattle.precedence.proofs.Largest.{most_gathers, most_all}

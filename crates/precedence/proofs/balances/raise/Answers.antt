@@ -1,5 +1,4 @@
 use Rattle.std.proofs.Common.{max, sym, ◌∙◌, ap₂, arith}
-use Rattle.precedence.specs.Rows.{cells}
 use Rattle.precedence.proofs.Cells.{cell_at, cell_far, upto_none, upto_more, upto_here, upto_all}
 use Rattle.precedence.proofs.balances.raise.Goals as goal
 

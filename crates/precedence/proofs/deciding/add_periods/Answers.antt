@@ -9,8 +9,11 @@ pub loop-s-init : goal.loop-s-init
 loop-s-init c = climb_none _ _ (c.requires ∙ period_start (scene c.args.x.now))
 
 pub add_node-requires : goal.add_node-requires
-add_node-requires c = record { one_period = omega arith; fits = climb_fits (periods (scene c.args.x.now)) c.loop-s.s _ _ _ c.loop-s.invariant c.before_period.ensures c.from_on.ensures
-      (period_stairs_fit (scene c.args.x.now) (sound c.args.x.now)) }
+add_node-requires c = record {
+  one_period = omega arith;
+  fits = climb_fits (periods (scene c.args.x.now)) c.loop-s.s _ _ _ c.loop-s.invariant c.before_period.ensures c.from_on.ensures
+      (period_stairs_fit (scene c.args.x.now) (sound c.args.x.now));
+}
 
 pub returns-then-not-add_node : goal.returns-then-not-add_node
 returns-then-not-add_node c =

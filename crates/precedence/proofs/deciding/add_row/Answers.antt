@@ -1,4 +1,4 @@
-use Rattle.std.proofs.Common.{◌≡◌, sym, ◌∙◌}
+use Rattle.std.proofs.Common.{sym, ◌∙◌}
 use Rattle.rows.specs.Row.{bit}
 use Rattle.settings.specs.View.{scene}
 use Rattle.settings.proofs.Settings.{sound}
@@ -14,9 +14,12 @@ returns-then-not-is_lock c =
 
 pub add_relay-requires : goal.add_relay-requires
 add_relay-requires c =
-    let x = c.args.x.now in record { reached = c.reaches-reach.ensures; fits = row_fit (scene x) (sound x) c.args.l (sym c.is_lock.ensures ∙ c.if-not-is_lock.false) (sheet c.args.m.now) (bit c.before_unlock-into.result) (bit c.closing.result)
+    let x = c.args.x.now in record {
+      reached = c.reaches-reach.ensures;
+      fits = row_fit (scene x) (sound x) c.args.l (sym c.is_lock.ensures ∙ c.if-not-is_lock.false) (sheet c.args.m.now) (bit c.before_unlock-into.result) (bit c.closing.result)
           (bit c.all_after-row.result) (bit c.from_any.result) (cells c.reaches-reach.result) c.requires.rows_before c.before_unlock-into.ensures c.reaches-reach.ensures
-          c.closing.ensures c.all_after-row.ensures c.from_any.ensures c.requires.no_round }
+          c.closing.ensures c.all_after-row.ensures c.from_any.ensures c.requires.no_round;
+    }
 
 pub returns : goal.returns
 returns c =

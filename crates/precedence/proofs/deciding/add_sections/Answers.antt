@@ -9,8 +9,11 @@ pub loop-l-init : goal.loop-l-init
 loop-l-init c = climb_none _ _ (c.requires.after_periods ∙ section_start (scene c.args.x.now))
 
 pub add_node-requires : goal.add_node-requires
-add_node-requires c = record { one_period = omega arith; fits = climb_fits (sections (scene c.args.x.now)) c.loop-l.l _ _ _ c.loop-l.invariant c.before_unlock.ensures c.from_on.ensures
-      (section_stairs_fit (scene c.args.x.now) (sound c.args.x.now) c.requires.calm) }
+add_node-requires c = record {
+  one_period = omega arith;
+  fits = climb_fits (sections (scene c.args.x.now)) c.loop-l.l _ _ _ c.loop-l.invariant c.before_unlock.ensures c.from_on.ensures
+      (section_stairs_fit (scene c.args.x.now) (sound c.args.x.now) c.requires.calm);
+}
 
 pub returns-then-not-add_node : goal.returns-then-not-add_node
 returns-then-not-add_node c =

@@ -1,6 +1,5 @@
 use Rattle.std.proofs.Common.{◌≡◌, false, sym, refl, ◌∙◌, subst}
 use Rattle.std.proofs.lemmas.Bool.{not-true, not-false, false≢true}
-use Rattle.relations.specs.Algebra.{any}
 use Rattle.relations.specs.View.{rel}
 use Rattle.grace.specs.Law.{Table}
 use Rattle.grace.specs.First.{First}
@@ -8,7 +7,6 @@ use Rattle.grace.specs.Deciding.{rounds}
 use Rattle.grace.proofs.Deciding.{deciding_law}
 use Rattle.grace.proofs.Stages.{rounds_none}
 use Rattle.precedence.specs.Rows.{sheet}
-use Rattle.precedence.specs.Turns.{period_turns, section_turns}
 use Rattle.settings.specs.View.{scene}
 use Rattle.settings.proofs.Settings.{sound, link_sheet_is}
 use Rattle.precedence.proofs.Tabling.{no_rounds, period_breaks, section_breaks}
@@ -35,8 +33,11 @@ returns-then-not-add_sections c = record {
 }
 
 pub all_rows-requires : goal.all_rows-requires
-all_rows-requires c = record { after_sections = c.add_sections.ensures.more c.if-not-add_sections.false; no_round = no_rounds (scene c.args.x.now) (not-true _ (sym c.add_periods.ensures.calm ∙ c.if-not-add_periods.false))
-      (not-true _ (sym c.add_sections.ensures.calm ∙ c.if-not-add_sections.false)) }
+all_rows-requires c = record {
+  after_sections = c.add_sections.ensures.more c.if-not-add_sections.false;
+  no_round = no_rounds (scene c.args.x.now) (not-true _ (sym c.add_periods.ensures.calm ∙ c.if-not-add_periods.false))
+      (not-true _ (sym c.add_sections.ensures.calm ∙ c.if-not-add_sections.false));
+}
 
 pub returns : goal.returns
 returns c =

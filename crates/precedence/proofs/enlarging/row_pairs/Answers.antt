@@ -1,5 +1,4 @@
 use Rattle.std.proofs.Common.{◌∙◌, ap₂, arith}
-use Rattle.rows.specs.Row.{bit}
 use Rattle.relations.specs.Algebra.{union}
 use Rattle.settings.specs.View.{scene}
 use Rattle.settings.proofs.Settings.{sound, po_within, from_on_within}

@@ -1,4 +1,4 @@
-use Rattle.std.proofs.Common.{◌≡◌, ℕ, ◌-◌, ◌<◌, replicate, sym, refl, ap, ◌∙◌, subst, arith}
+use Rattle.std.proofs.Common.{ℕ, ◌-◌, ◌<◌, replicate, sym, refl, ◌∙◌, subst, arith}
 use Rattle.relations.specs.View.{rel}
 use Rattle.precedence.specs.Rows.{sheet}
 use Rattle.precedence.proofs.Joining.{rowed_none, rowed_more}

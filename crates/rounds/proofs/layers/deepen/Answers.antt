@@ -1,6 +1,5 @@
-use Rattle.std.proofs.Common.{◌≡◌, ℕ, ◌<◌, sym, refl, ap, ◌∙◌, subst, arith}
+use Rattle.std.proofs.Common.{ℕ, ◌<◌, sym, refl, ap, ◌∙◌, subst, arith}
 use Rattle.relations.specs.View.{rel}
-use Rattle.precedence.specs.Rows.{sheet, cells}
 use Rattle.precedence.proofs.Joining.{rowed_none, rowed_more, rowed_here}
 use Rattle.rounds.specs.Layers.{further}
 use Rattle.rounds.proofs.layers.deepen.Goals as goal

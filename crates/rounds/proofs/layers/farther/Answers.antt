@@ -1,4 +1,4 @@
-use Rattle.std.proofs.Common.{◌≡◌, ℕ, max, replicate, refl, ap, ◌∙◌, ap₂, arith}
+use Rattle.std.proofs.Common.{max, replicate, refl, ap, ◌∙◌, ap₂, arith}
 use Rattle.rows.specs.Row.{bit}
 use Rattle.relations.specs.Algebra.{Set}
 use Rattle.relations.specs.View.{rel}

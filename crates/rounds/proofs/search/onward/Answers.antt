@@ -1,10 +1,9 @@
-use Rattle.std.proofs.Common.{◌≡◌, ℕ, ◌<◌, sym, ap, ◌∙◌, arith}
+use Rattle.std.proofs.Common.{ap, ◌∙◌, arith}
 use Rattle.rows.specs.Row.{bit}
-use Rattle.grace.specs.Sheet.{most}
 use Rattle.precedence.specs.Rows.{cells}
 use Rattle.precedence.proofs.Largest.{most_le}
 use Rattle.rounds.specs.Layers.{raised}
-use Rattle.rounds.proofs.Searching.{onward_period, onward_section, raised_some}
+use Rattle.rounds.proofs.Searching.{onward_period, raised_some}
 use Rattle.rounds.proofs.search.onward.Goals as goal
 
 pub raise-requires : goal.raise-requires

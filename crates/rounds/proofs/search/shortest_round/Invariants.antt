@@ -4,7 +4,6 @@ use Rattle.precedence.specs.Rows.{sheet}
 use Rattle.settings.specs.View.{scene}
 use Rattle.settings.proofs.Settings.{sound}
 use Rattle.rounds.specs.Layers.{tally}
-use Rattle.rounds.specs.Marks.{period_step, section_step}
 use Rattle.rounds.proofs.Layering.{Open}
 use Rattle.rounds.proofs.search.shortest_round.Given as goal
 

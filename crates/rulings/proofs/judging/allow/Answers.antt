@@ -1,4 +1,4 @@
-use Rattle.std.proofs.Common.{◌≡◌, ℕ, List, sym, ◌∙◌, subst}
+use Rattle.std.proofs.Common.{ℕ, sym, subst}
 use Rattle.relations.specs.Algebra.{Rel, union}
 use Rattle.relations.specs.Chains.{Acyclic}
 use Rattle.relations.specs.Table.{table}

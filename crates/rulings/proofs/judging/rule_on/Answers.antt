@@ -1,6 +1,6 @@
-use Rattle.std.proofs.Common.{◌≡◌, is_some, sym, ◌∙◌, subst}
+use Rattle.std.proofs.Common.{is_some, sym, subst}
 use Rattle.std.proofs.lemmas.Bool.Decides.{Decides-at}
-use Rattle.grace.specs.Scene.{Scene, Sound}
+use Rattle.grace.specs.Scene.{Sound}
 use Rattle.settings.specs.View as setting
 use Rattle.settings.proofs.Settings.{sound}
 use Rattle.lkmm.specs.Held.{held}

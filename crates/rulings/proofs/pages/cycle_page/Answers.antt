@@ -1,4 +1,4 @@
-use Rattle.std.proofs.Common.{◌≡◌, ℕ, length, take, replicate, sym, refl, ap, ◌∙◌, arith, rules}
+use Rattle.std.proofs.Common.{◌≡◌, ℕ, length, take, replicate, sym, ap, ◌∙◌, rules}
 use Rattle.std.proofs.lemmas.List.{length-take-le, take-replicate}
 use Rattle.searches.specs.View.{listed}
 use Rattle.rulings.proofs.pages.cycle_page.Goals as goal

@@ -1,4 +1,4 @@
-use Rattle.std.proofs.Common.{ℕ, map, length, get_or, take, set, refl, ap, ◌∙◌, arith, length-set}
+use Rattle.std.proofs.Common.{map, get_or, take, refl, ap, ◌∙◌, arith, length-set}
 use Rattle.std.proofs.lemmas.List.{get_or-take, get_or-map, length-map, length-take}
 use Rattle.rounds.specs.Marks.{number}
 use Rattle.rounds.specs.declared.kinds.Mark.TheVariants.{Period}

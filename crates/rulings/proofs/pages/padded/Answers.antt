@@ -1,4 +1,4 @@
-use Rattle.std.proofs.Common.{ℕ, length, get_or, take, set, refl, ◌∙◌, arith, length-set}
+use Rattle.std.proofs.Common.{get_or, take, refl, ◌∙◌, arith, length-set}
 use Rattle.std.proofs.lemmas.List.{get_or-take, get_or_default, length-take}
 use Rattle.rulings.proofs.Columns.{padded_none, padded_more, padded_all}
 use Rattle.rulings.proofs.pages.padded.Goals as goal

@@ -1,4 +1,4 @@
-use Rattle.std.proofs.Common.{ℕ, get_or, drop, ◌∙◌, arith, rules}
+use Rattle.std.proofs.Common.{get_or, ◌∙◌, arith, rules}
 use Rattle.std.proofs.lemmas.List.{get_or_default, drop-set-lt}
 use Rattle.rulings.proofs.Drawing.{drawn_more}
 use Rattle.rulings.proofs.sheets.draw.Goals as goal

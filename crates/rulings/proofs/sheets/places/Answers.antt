@@ -1,4 +1,4 @@
-use Rattle.std.proofs.Common.{◌≡◌, ℕ, List, take, ap, ◌∙◌, subst, rules}
+use Rattle.std.proofs.Common.{ℕ, take, subst, rules}
 use Rattle.rulings.specs.Pages.{Column}
 use Rattle.rulings.proofs.Drawing.{order_in}
 use Rattle.rulings.proofs.sheets.places.Goals as goal

@@ -1,7 +1,5 @@
-use Rattle.std.proofs.Common.{◌≡◌, ℕ, min, List, length, get_or, take, drop, sym, refl, ap, ◌∙◌, subst, subst₂, arith}
+use Rattle.std.proofs.Common.{◌≡◌, ℕ, min, length, take, drop, refl, subst, subst₂, arith}
 use Rattle.std.proofs.lemmas.List.{get_or_default}
-use Rattle.executions.specs.declared.events.Event.{Event}
-use Rattle.runs.specs.declared.kinds.Answer.{Answer}
 use Rattle.runs.specs.Runs.{Run}
 use Rattle.runs.specs.States.{plain}
 use Rattle.runs.proofs.Going.{open_long, begun, run_more, rest_more}

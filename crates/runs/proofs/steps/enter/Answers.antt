@@ -1,5 +1,3 @@
-use Rattle.tables.specs.Tables.{tables}
-use Rattle.tables.specs.Plain.{enter_plain}
 use Rattle.runs.specs.Runs.{entered_answer}
 use Rattle.runs.proofs.Doing.{case_after, answered, stays_exact}
 use Rattle.runs.proofs.steps.enter.Goals as goal

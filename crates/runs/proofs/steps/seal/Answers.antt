@@ -1,4 +1,4 @@
-use Rattle.std.proofs.Common.{◌≡◌, length, Result, sym, refl, ap, ◌∙◌}
+use Rattle.std.proofs.Common.{length, Result, sym, refl, ap, ◌∙◌}
 use Rattle.executions.specs.declared.faults.Fault.{Fault}
 use Rattle.executions.specs.Execution.{Execution}
 use Rattle.sources.specs.Source.{bounded}

@@ -1,5 +1,3 @@
-use Rattle.tables.specs.Tables.{tables}
-use Rattle.tables.specs.Plain.{tie_plain}
 use Rattle.runs.specs.Runs.{done_answer}
 use Rattle.runs.proofs.Doing.{case_after, answered, stays_exact}
 use Rattle.runs.proofs.steps.tie.Goals as goal

@@ -1,4 +1,4 @@
-use Rattle.std.proofs.Common.{◌≡◌, ℕ, ◌+◌, ◌*◌, ◌<◌, length, get_or}
+use Rattle.std.proofs.Common.{◌≡◌, ℕ, ◌+◌, ◌*◌, ◌<◌, get_or}
 use Rattle.rows.specs.Row.{bit}
 use Rattle.sources.specs.Source.{targets}
 use Rattle.sources.proofs.snapshot.copy_relation.Given as goal

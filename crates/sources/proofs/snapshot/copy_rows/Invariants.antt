@@ -1,4 +1,3 @@
-use Rattle.std.proofs.Common.{◌≡◌, length}
 use Rattle.sources.specs.Snapshot.{RowsCopied}
 use Rattle.sources.proofs.snapshot.copy_rows.Given as goal
 

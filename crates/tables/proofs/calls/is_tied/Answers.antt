@@ -1,4 +1,4 @@
-use Rattle.std.proofs.Common.{◌≡◌, get_or, sym, ap, ◌∙◌, arith}
+use Rattle.std.proofs.Common.{get_or, sym, ap, ◌∙◌, arith}
 use Rattle.rows.specs.Row.{bit}
 use Rattle.executions.specs.Ties.{relation_number}
 use Rattle.executions.specs.Words.{word_at}

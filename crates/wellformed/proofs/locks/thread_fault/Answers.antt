@@ -1,4 +1,4 @@
-use Rattle.std.proofs.Common.{◌≡◌, Some, None, sym, refl, ◌∙◌, arith}
+use Rattle.std.proofs.Common.{Some, None, sym, ◌∙◌, arith}
 use Rattle.std.proofs.lemmas.Bool.{le-ltb, lt-ltb}
 use Rattle.sources.specs.Snapshot.{execution}
 use Rattle.sources.proofs.Copying.{held_few}
@@ -12,7 +12,7 @@ loop-i-init c = (depth_none (execution c.args.case.now) c.args.thread, lock_none
 pub loop-i-preserved : goal.loop-i-preserved
 loop-i-preserved c = (
   depth_more (execution c.args.case.now) c.args.thread c.loop-i.i c.event-event.result c.loop-i.depth c.depth_after-depth.result
-      (omega (arith, held_few c.args.case.now, c.count-i-end.ensures)) c.event-event.ensures c.loop-i.invariant.0 c.depth_after-depth.ensures,
+      (omega (arith, held_few c.args.case.now, c.count-i-end.ensures)) c.event-event.ensures c.loop-i.invariant.0 c.depth_after-depth.ensures.locks,
   lock_more (execution c.args.case.now) c.args.thread c.loop-i.i c.event-event.result c.loop-i.depth c.loop-i.outermost c.outermost_after-outermost.result c.event-event.ensures
       c.loop-i.invariant.0 c.loop-i.invariant.1 c.outermost_after-outermost.ensures,
   first_more _ c.loop-i.i c.loop-i.invariant.2

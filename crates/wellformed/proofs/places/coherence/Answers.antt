@@ -1,8 +1,7 @@
-use Rattle.std.proofs.Common.{◌≡◌, ℕ, ◌<◌, min, Bool, true, false, ◌&&◌, ltb, sym, refl, ap, ◌∙◌, subst, arith}
+use Rattle.std.proofs.Common.{◌≡◌, Bool, true, false, ◌&&◌, ltb, refl, ap, ◌∙◌, arith}
 use Rattle.rows.specs.Row.{bit}
 use Rattle.relations.specs.Algebra.{Rel}
 use Rattle.relations.specs.View.{rel, size}
-use Rattle.executions.specs.Execution.{count}
 use Rattle.sources.specs.Snapshot.{execution}
 use Rattle.sources.proofs.Copying.{held_few, held_count}
 use Rattle.wellformed.specs.Events.{co}

@@ -1,4 +1,4 @@
-use Rattle.std.proofs.Common.{◌≡◌, sym, ap, ◌∙◌, arith}
+use Rattle.std.proofs.Common.{ap, ◌∙◌, arith}
 use Rattle.rows.specs.Row.{tick}
 use Rattle.executions.specs.Execution.{count}
 use Rattle.sources.specs.Snapshot.{execution}

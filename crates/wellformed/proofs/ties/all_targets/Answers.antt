@@ -1,4 +1,4 @@
-use Rattle.std.proofs.Common.{◌≡◌, sym, ap, ◌∙◌, arith}
+use Rattle.std.proofs.Common.{sym, ap, ◌∙◌, arith}
 use Rattle.rows.specs.Row.{Set}
 use Rattle.rows.proofs.Any.{any_none}
 use Rattle.rows.proofs.Bits.{bit_zero}

@@ -1,4 +1,4 @@
-use Rattle.std.proofs.Common.{◌≡◌, ℕ, true, Some, None, sym, refl, ap, ◌∙◌, subst, ⊎_elim}
+use Rattle.std.proofs.Common.{◌≡◌, ℕ, Some, None, sym, ap, ◌∙◌, subst, ⊎_elim}
 use Rattle.rows.specs.Row.{Set, bit}
 use Rattle.rows.proofs.Words.{fewer}
 use Rattle.sources.specs.Snapshot.{execution}

@@ -1,8 +1,7 @@
-use Rattle.std.proofs.Common.{◌≡◌, sym, ap, ◌∙◌, arith}
+use Rattle.std.proofs.Common.{sym, ap, ◌∙◌, arith}
 use Rattle.rows.specs.Row.{Set}
-use Rattle.relations.specs.Algebra.{Rel, plus}
+use Rattle.relations.specs.Algebra.{plus}
 use Rattle.executions.specs.declared.sorts.Sort.TheVariants.{SyncRcu}
-use Rattle.executions.specs.Execution.{count}
 use Rattle.sources.specs.Snapshot.{execution}
 use Rattle.basis.specs.Meaning.{accesses, basis}
 use Rattle.basis.proofs.Members.{either_is, sort_inside}

@@ -1,5 +1,4 @@
 use Rattle.std.proofs.Common.{arith}
-use Rattle.relations.specs.Algebra.{inter}
 use Rattle.relations.specs.View.{rel}
 use Rattle.relations.proofs.Tables.{done_none, done_more, done_is, done_owes}
 use Rattle.relations.proofs.Ranges.{on_inter}

@@ -1,5 +1,5 @@
 use Rattle.std.proofs.Common.{refl, ◌∙◌, arith}
-use Rattle.relations.specs.Algebra.{paths, plus}
+use Rattle.relations.specs.Algebra.{paths}
 use Rattle.relations.specs.View.{rel}
 use Rattle.relations.proofs.Closure.{on_paths, plus_enough, chains_at}
 use Rattle.relations.proofs.Joins.{via_paths}

@@ -1,6 +1,5 @@
-use Rattle.std.proofs.Common.{ℕ, sym, ap, ◌∙◌}
-use Rattle.rows.specs.Row.{Set, any}
-use Rattle.relations.specs.Algebra.{Rel}
+use Rattle.std.proofs.Common.{ℕ, ap, ◌∙◌}
+use Rattle.rows.specs.Row.{any}
 use Rattle.relations.specs.View.{rel}
 use Rattle.basis.specs.Basis.{Basis}
 use Rattle.basis.specs.Meaning.{basis}

@@ -1,9 +1,6 @@
-use Rattle.std.proofs.Common.{◌≡◌, ℕ, sym, refl, ap, arith}
+use Rattle.std.proofs.Common.{sym, ap, arith}
 use Rattle.std.proofs.lemmas.Bool.{both_ways, false≢true}
 use Rattle.relations.specs.Algebra.{Rel}
-use Rattle.relations.specs.View.{rel}
-use Rattle.grace.specs.Scene.{gp}
-use Rattle.settings.specs.Parts.{scene_of}
 use Rattle.settings.proofs.Settings.{gp_is, contains_at}
 use Rattle.settings.proofs.kinds.Setting.new.Goals as goal
 

@@ -1,4 +1,4 @@
-use Rattle.std.proofs.Common.{sym, arith}
+use Rattle.std.proofs.Common.{arith}
 use Rattle.sources.proofs.Copying.{copied_execution}
 use Rattle.sources.proofs.kinds.Snapshot.of.Goals as goal
 

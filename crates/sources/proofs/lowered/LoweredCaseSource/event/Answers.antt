@@ -1,4 +1,4 @@
-use Rattle.std.proofs.Common.{take, Some, None, ap, ◌∙◌}
+use Rattle.std.proofs.Common.{take, Some, ap, ◌∙◌}
 use Rattle.sources.proofs.Layers.{lower_some, lower_none}
 use Rattle.sources.proofs.lowered.LoweredCaseSource.event.Goals as goal
 

@@ -1,4 +1,4 @@
-use Rattle.std.proofs.Common.{◌≡◌, ℕ, cond, List, drop, sym, refl, ap, ap₂, subst₂}
+use Rattle.std.proofs.Common.{ℕ, List, drop, sym, refl, subst₂}
 use Rattle.executions.specs.declared.events.Event.{Event}
 use Rattle.tables.specs.Plain.{blank}
 use Rattle.tables.specs.Tables.{Represents}
