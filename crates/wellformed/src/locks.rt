@@ -1,6 +1,6 @@
 // The test of locks: in each thread every unlock closes a lock, and no lock stays open. The steps of its walk through a thread are
 // public, for the walk that gathers the critical sections.
-ghost use Rattle.std.specs.Prelude.{◌≡◌, pred, ◌+◌, ◌-◌, ◌^◌, ◌<◌, min, ◌&&◌, if◌then◌else◌, ◌==◌};
+ghost use Rattle.std.specs.Prelude.{◌≡◌, pred, ◌+◌, ◌-◌, ◌^◌, ◌<◌, ◌≤◌, min, ◌&&◌, if◌then◌else◌, ◌==◌};
 ghost use Rattle.sources.specs.Snapshot.{execution};
 ghost use Rattle.wellformed.specs.Events.{lock_of, unlock_of};
 ghost use Rattle.wellformed.specs.Faults.{first, fault_if, thread_fault as thread_first};
