@@ -1,7 +1,7 @@
 -- The text of a case is accepted, and gives the case.
 use Rattle.std.proofs.Common.{◌≡◌, ℕ, zero, suc, ◌+◌, ◌-◌, ◌/◌, ◌%◌, ◌<◌, ◌≤◌, min, Bool, true, false, cond, not, ◌&&◌, ◌||◌, eqb, ltb, leb, ◌⊎◌, List, [], ◌∷◌, ◌++◌, length, Some, None, Ok, codes, decimal, Option, sym, refl, ap, ◌∙◌, subst, ap₂, subst₂, inl, inr, ⊎_elim, add-one, arith}
 use mathlib.Core.Path.{fun_ext}
-use Rattle.std.specs.List.{flat_map, AllByRecursion as All}
+use Rattle.std.specs.List.{flat_map, AllByRecursion}
 use Rattle.std.proofs.lemmas.List.{append-nil, append_assoc, length-append, length_push}
 use Rattle.std.proofs.lemmas.Bool.{and_parts, and_from, or_cases, or_from, eqb-true, eqb-false, eq-eqb, ne_eqb, leb-true, lt-leb, lt-ltb, le-ltb, ltb-true, cases_eq, cases_lt, cases_Bool, cond-false, cond-true, both_ways, and_right}
 use Rattle.rows.specs.Row.{any}
@@ -68,12 +68,12 @@ joined_append f (x ∷ xs) ys = ap (λ l. f x ++ l) (joined_append f xs ys) ∙ 
 
 -- ---- which number is a sort
 
-numbered_none : {E : Type 0} (number : E → ℕ) (es : List E) (n : ℕ) → numbered number es n ≡ None → All (λ e. n ≡ number e → ⊥) es
+numbered_none : {E : Type 0} (number : E → ℕ) (es : List E) (n : ℕ) → numbered number es n ≡ None → AllByRecursion (λ e. n ≡ number e → ⊥) es
 numbered_none number [] n h = tt
 numbered_none number (e ∷ es) n h = go (eqb n (number e)) refl h (numbered_none number es n)
   where
-    go : (t : Bool) → eqb n (number e) ≡ t → cond t (Some e) (numbered number es n) ≡ None → (numbered number es n ≡ None → All (λ d. n ≡ number d → ⊥) es)
-        → (n ≡ number e → ⊥) × All (λ d. n ≡ number d → ⊥) es
+    go : (t : Bool) → eqb n (number e) ≡ t → cond t (Some e) (numbered number es n) ≡ None → (numbered number es n ≡ None → AllByRecursion (λ d. n ≡ number d → ⊥) es)
+        → (n ≡ number e → ⊥) × AllByRecursion (λ d. n ≡ number d → ⊥) es
     go true q k later = let z : ◌≡◌ {A = ℕ} 0 1 = cc in absurd (omega arith)
     go false q k later = (eqb-false n (number e) q, later k)
 
@@ -224,7 +224,7 @@ module _ (records words : ℕ) (long : short records words ≡ false) where
     leads : Leads s p bs reader q
 
   events_lead : (es : List Record) (s : Reader) (p : Plain) (left : ℕ) → s.section ≡ InEvents → s.left ≡ length es + left → count p.execution + length es ≤ 64
-      → All (λ e. in_range e ≡ true) es → Reached InEvents s p (flat_map line (flat_map event_lines es)) left (with_events p es)
+      → AllByRecursion (λ e. in_range e ≡ true) es → Reached InEvents s p (flat_map line (flat_map event_lines es)) left (with_events p es)
   events_lead [] s p left here still few range = record {
     reader = s;
     here = here;

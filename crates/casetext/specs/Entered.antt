@@ -1,6 +1,6 @@
 -- Which executions are cases: those whose events and ties the calls enter and tie accept.
 use Rattle.std.specs.Prelude.{◌≡◌, ℕ, ◌<◌, ◌≤◌, true, ◌⊎◌}
-use Rattle.std.specs.List.{AllByRecursion as All}
+use Rattle.std.specs.List.{AllByRecursion}
 use Rattle.executions.specs.declared.ties.Relation.{Relation}
 use Rattle.executions.specs.declared.ties.Relation.TheVariants.{Rf, Rmw}
 use Rattle.executions.specs.Events.{in_range}
@@ -14,7 +14,7 @@ Stands e a b = (e ≡ a) ⊎ (e ≡ b)
 pub record Case (x : Execution) : Type 0 where
   -- at most 64 events, each in range
   pub few : count x ≤ 64
-  pub range : All (λ e. in_range e ≡ true) x.events
+  pub range : AllByRecursion (λ e. in_range e ≡ true) x.events
   -- ties go from event to event, and fit
   pub inside : (r : Relation) (a b : ℕ) → x.ties r a b ≡ true → (a < count x) × (b < count x)
   pub fit : (r : Relation) (a b : ℕ) → x.ties r a b ≡ true → fits r a (event_at x a) b (event_at x b) ≡ true
