@@ -1,7 +1,8 @@
 // What is timed: an operation on an input.
+// The loops count events: a relation takes pairs, and hands out rows, by their numbers.
 use relations::Relation;
 use searches::{order, shortest_cycle};
-use std::fmt;
+use std::{array, fmt};
 
 #[derive(Clone, Copy)]
 pub enum Operation {
@@ -25,25 +26,29 @@ pub struct Case {
     pub events: usize,
 }
 
-// How many cases there are.
-pub const CASES: usize = 16;
+const OPERATIONS: [Operation; 4] = [
+    Operation::Closure,
+    Operation::Sequence,
+    Operation::Cycle,
+    Operation::Order,
+];
 
-// The case of a number: four inputs of each operation.
-pub(crate) fn numbered(number: usize) -> Case {
-    let operation = match number / 4 {
-        0 => Operation::Closure,
-        1 => Operation::Sequence,
-        2 => Operation::Cycle,
-        _ => Operation::Order,
-    };
-    let pairs = if number % 2 == 0 {
-        Pairs::Dense
-    } else {
-        Pairs::Sparse
-    };
-    let events = if number % 4 < 2 { 64 } else { 10 };
+const INPUTS: [(Pairs, usize); 4] = [
+    (Pairs::Dense, 64),
+    (Pairs::Sparse, 64),
+    (Pairs::Dense, 10),
+    (Pairs::Sparse, 10),
+];
+
+// The cases in their order: four inputs of each operation.
+pub(crate) fn cases() -> [Case; 16] {
+    array::from_fn(numbered)
+}
+
+fn numbered(number: usize) -> Case {
+    let (pairs, events) = INPUTS[number % 4];
     Case {
-        operation,
+        operation: OPERATIONS[number / 4 % 4],
         pairs,
         events,
     }
@@ -67,17 +72,14 @@ impl fmt::Display for Case {
 
 // The input of a case: what has to have an order goes upwards only.
 pub(crate) fn input(case: &Case) -> Relation {
-    let upwards = match case.operation {
-        Operation::Order => true,
-        _ => false,
-    };
+    let upwards = matches!(case.operation, Operation::Order);
     match case.pairs {
         Pairs::Dense => random(case.events, upwards),
         Pairs::Sparse => line(case.events, upwards),
     }
 }
 
-// About half of all pairs, by a fixed random sequence; none of an event with itself.
+// About half of all pairs, by a fixed random sequence; none of an event with itself. The numbers a and b are the events, and index nothing.
 fn random(events: usize, upwards: bool) -> Relation {
     let mut x = Relation::empty(events);
     let mut state: u64 = 0x9e37_79b9_7f4a_7c15;
@@ -107,36 +109,22 @@ fn line(events: usize, upwards: bool) -> Relation {
     x
 }
 
-// Runs the operation once, and sums its result up in a number.
+// Runs the operation once, and sums its result up in a number. An operation is an enum, and no closure, since it is printed too.
 pub(crate) fn run(operation: Operation, x: &Relation) -> u64 {
     match operation {
         Operation::Closure => checksum(&x.plus()),
         Operation::Sequence => checksum(&x.seq(x)),
-        Operation::Cycle => match shortest_cycle(x) {
-            Some(c) => spread(c.events),
-            None => 0,
-        },
-        Operation::Order => match order(x) {
-            Some(o) => spread(o.places),
-            None => 0,
-        },
+        Operation::Cycle => shortest_cycle(x).map_or(0, |c| spread(&c.events)),
+        Operation::Order => order(x).map_or(0, |o| spread(&o.places)),
     }
 }
 
 fn checksum(x: &Relation) -> u64 {
-    let mut sum = 0;
-    for a in 0..x.events() {
-        sum = mixed(sum, x.row(a));
-    }
-    sum
+    (0..x.events()).fold(0, |sum, a| mixed(sum, x.row(a)))
 }
 
-fn spread(bytes: [u8; 64]) -> u64 {
-    let mut sum = 0;
-    for b in bytes {
-        sum = mixed(sum, b as u64);
-    }
-    sum
+fn spread(bytes: &[u8]) -> u64 {
+    bytes.iter().fold(0, |sum, b| mixed(sum, u64::from(*b)))
 }
 
 fn mixed(sum: u64, word: u64) -> u64 {

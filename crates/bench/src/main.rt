@@ -7,7 +7,7 @@
 
 mod cases;
 
-use cases::{CASES, Case, Operation, input, numbered, run};
+use cases::{Case, Operation, cases, input, run};
 use relations::Relation;
 use std::env;
 use std::time::Instant;
@@ -17,8 +17,7 @@ const ROUNDS: u32 = 1000;
 
 fn main(rt: HostRuntime) -> anyhow::Result<()> {
     let mut words = env::args(&rt)?;
-    let _program = words.next();
-    let Some(word) = words.next() else {
+    let Some(word) = words.nth(1) else {
         return print_checksums(&rt);
     };
     if word.as_str() == "time" {
@@ -31,9 +30,8 @@ fn main(rt: HostRuntime) -> anyhow::Result<()> {
 }
 
 fn print_checksums(rt: &HostRuntime) -> anyhow::Result<()> {
-    for number in 0..CASES {
-        let c = numbered(number);
-        print_line(rt, number, &c, run(c.operation, &input(&c)) as u128)?;
+    for (number, c) in cases().iter().enumerate() {
+        print_line(rt, number, c, run(c.operation, &input(c)) as u128)?;
     }
     Ok(())
 }
@@ -41,17 +39,12 @@ fn print_checksums(rt: &HostRuntime) -> anyhow::Result<()> {
 fn print_times(rt: &HostRuntime) -> anyhow::Result<()> {
     println!(rt; "nanoseconds")?;
     let mut sum: u64 = 0;
-    for number in 0..CASES {
-        let c = numbered(number);
-        let x = input(&c);
+    for (number, c) in cases().iter().enumerate() {
+        let x = input(c);
         let start = Instant::now(rt)?;
         sum = sum.wrapping_add(repeated(c.operation, &x));
-        print_line(
-            rt,
-            number,
-            &c,
-            start.elapsed(rt)?.as_nanos() / ROUNDS as u128,
-        )?;
+        let nanos = start.elapsed(rt)?.as_nanos() / ROUNDS as u128;
+        print_line(rt, number, c, nanos)?;
     }
     // printed so that no run can be left out
     println!(rt; "checksum {sum}")?;
@@ -59,9 +52,8 @@ fn print_times(rt: &HostRuntime) -> anyhow::Result<()> {
 }
 
 fn run_only(rt: &HostRuntime, number: usize) -> anyhow::Result<()> {
-    if number < CASES {
-        let c = numbered(number);
-        println!(rt; "checksum {}", repeated(c.operation, &input(&c)))?;
+    if let Some(c) = cases().get(number) {
+        println!(rt; "checksum {}", repeated(c.operation, &input(c)))?;
     }
     Ok(())
 }

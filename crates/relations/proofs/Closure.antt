@@ -1,12 +1,13 @@
 -- The closure decides chains.
-use Rattle.std.proofs.Common.{◌≡◌, ℕ, zero, suc, ◌<◌, ◌≤◌, true, false, ◌&&◌, ◌⊎◌, Decides, sym, subst, inl, inr, ⊎_elim, arith}
-use mathlib.Core.Path.{fun_ext}
-use Rattle.std.proofs.lemmas.Bool.{or_cases, or_left, or_right, and_parts, and_from, cases_eq, both_ways}
-use Rattle.relations.specs.Algebra.{Rel, paths, plus}
+use Rattle.std.proofs.lemmas.Bool.Decides.{nat_tests}
+use Rattle.std.proofs.Common.{◌≡◌, ℕ, zero, suc, ◌<◌, ◌≤◌, Bool, true, not, ◌&&◌, ◌⊎◌, Decides, sym, ◌∙◌, subst, ⊎_elim, arith}
+use Rattle.std.proofs.lemmas.Bool.{false_from_ne_true, or_cases, or_left, and_parts, cases_eq, both_ways, not-true, not_from_false}
+use Rattle.relations.specs.Algebra.{Rel, any, paths, plus}
 use Rattle.relations.specs.Chains.{Chain, one, step, Acyclic, DecidesChains}
 use Rattle.relations.specs.Table.{On}
 use Rattle.relations.proofs.Ranges.{on_more}
 use Rattle.relations.proofs.Tables.{both_same}
+use Rattle.rows.proofs.Any.{any_from, any_some}
 
 -- ---- a path is a chain
 
@@ -31,13 +32,12 @@ module _ (k : ℕ) (r : Rel) where
 
   paths_meet : (a b : ℕ) → paths k r a k ≡ true → paths k r k b ≡ true → paths (suc k) r a b ≡ true
   unfolding paths
-  paths_meet a b h g = or_right (paths k r a b) (paths k r a k && paths k r k b) (and_from (paths k r a k) (paths k r k b) h g)
+  paths_meet a b h g = grind (arith, nat_tests)
 
   -- a path with inner events up to k is one below k, or meets k once
   paths_split : (a b : ℕ) → paths (suc k) r a b ≡ true → (paths k r a b ≡ true) ⊎ ((paths k r a k ≡ true) × (paths k r k b ≡ true))
   unfolding paths
-  paths_split a b h =
-      ⊎_elim (λ e. inl e) (λ e. inr (and_parts (paths k r a k) (paths k r k b) e)) (or_cases (paths k r a b) (paths k r a k && paths k r k b) h)
+  paths_split a b h = grind (arith, nat_tests)
 
   -- a path from k, or to k, needs no inner k
   paths_into : (a : ℕ) → paths (suc k) r a k ≡ true → paths k r a k ≡ true
@@ -90,13 +90,7 @@ pub on_paths : (k n : ℕ) (r : Rel) → On n r → On n (paths k r)
 on_paths k n r on a b h = chain_ends n r on (paths_sound k r a b h)
 
 pub paths_enough : (n k : ℕ) (r : Rel) → On n r → n ≤ k → paths n r ≡ paths k r
-paths_enough n k r on le = fun_ext λ a. fun_ext λ b. both_same (paths n r a b) (paths k r a b) (there a b) (back a b)
-  where
-    there : (a b : ℕ) → paths n r a b ≡ true → paths k r a b ≡ true
-    there a b h = paths_complete k r (on_more n k r le on) (paths_sound n r a b h)
-
-    back : (a b : ℕ) → paths k r a b ≡ true → paths n r a b ≡ true
-    back a b h = paths_complete n r on (paths_sound k r a b h)
+paths_enough n k r on le = grind (arith, nat_tests, both_same, paths_complete, on_more, paths_sound)
 
 -- so n rounds or more are the closure
 pub plus_enough : (i n : ℕ) (r : Rel) → n ≤ i → i ≤ 64 → On n r → paths i r ≡ plus r
@@ -108,6 +102,15 @@ chains_at s r e on = λ a b. subst (λ (t : Rel). Decides (t a b) (Chain r a b))
 
 -- ---- no event with a chain to itself
 
-pub acyclic_from : (r : Rel) (n : ℕ) → n ≤ 64 → On n r → ((a : ℕ) → a < n → plus r a a ≡ false) → Acyclic r
-acyclic_from r n few on none a s =
-    both_ways (plus r a a) (none a (chain_ends n r on s).0) ((closure_decides r (on_more n 64 r few on) a a).1 s)
+-- a test for an event that the closure relates to itself tells of a cycle
+pub acyclic_test : (r s : Rel) (n : ℕ) (t : Bool) → n ≤ 64 → On n r → s ≡ plus r → t ≡ any n (λ a. s a a) → Decides (not t) (Acyclic r)
+acyclic_test r s n t few on closure e = (λ h a c. both_ways t (not-true t h) (e ∙ looped a c), λ none. not_from_false t (false_from_ne_true t (λ h. back none (any_some n (λ a. s a a) (sym e ∙ h)))))
+  where
+    chains : DecidesChains s r
+    chains = chains_at s r closure (on_more n 64 r few on)
+
+    looped : (a : ℕ) → Chain r a a → any n (λ x. s x x) ≡ true
+    looped a c = any_from n a (λ x. s x x) (chain_ends n r on c).0 ((chains a a).1 c)
+
+    back : Acyclic r → (a : ℕ) × (a < n) × (s a a ≡ true) → ⊥
+    back none h = none h.0 ((chains h.0 h.0).0 h.2)

@@ -1,15 +1,18 @@
 -- The targets of a set, gathered from one source after another.
-use Rattle.std.proofs.Common.{◌≡◌, ℕ, ◌^◌, ◌<◌, Bool, true, false, ◌&&◌, ◌||◌, List, get_or, sym, refl, ap, ◌∙◌, subst, ⊎_elim}
-use mathlib.Core.Path.{fun_ext}
+use Rattle.std.proofs.Common.{arith}
+use Rattle.std.proofs.lemmas.Bool.Decides.{nat_tests}
+use Rattle.std.proofs.Common.{◌≡◌, ℕ, ◌^◌, ◌<◌, Bool, true, false, ◌&&◌, ◌||◌, List, get_or, refl, subst, ⊎_elim}
+use Rattle.std.proofs.Math.Bool.{or_assoc}
 use lib.Bits.{bit_or}
-use Rattle.std.proofs.lemmas.Bool.{cases_eq, and_parts, and_from, or_cases, or_left, or_right, both_ways}
+use Rattle.std.proofs.lemmas.Bool.{cases_eq, and_from, or_cases, or_left, or_right}
 use Rattle.rows.specs.Row.{Set, bit, dropping, Lowest}
+use Rattle.rows.specs.Walk.{Taken}
 use Rattle.rows.proofs.Bits.{bit-bit_or, bit_zero}
 use Rattle.rows.proofs.Words.{dropped_parts, dropped_from}
 use Rattle.relations.specs.Algebra.{Rel, image}
 use Rattle.relations.specs.Table.{table}
 use Rattle.rows.proofs.Any.{any_some, any_from}
-use Rattle.relations.proofs.Tables.{both_same, never, row_is}
+use Rattle.relations.proofs.Tables.{both_same, row_is}
 
 -- what is in one set or the other
 unfoldable pub either : Set → Set → Set
@@ -20,10 +23,7 @@ either s t b = s b || t b
 module _ (r : Rel) (s : Set) (b : ℕ) where
   pub image_some : image r s b ≡ true → (a : ℕ) × (a < 64) × (s a ≡ true) × (r a b ≡ true)
   unfolding image
-  image_some h =
-      let e = any_some 64 (λ a. s a && r a b) h in
-      let p = and_parts (s e.0) (r e.0 b) e.2 in
-      (e.0, e.1, p.0, p.1)
+  image_some h = grind (arith, nat_tests, any_some)
 
   pub image_from : (a : ℕ) → a < 64 → s a ≡ true → r a b ≡ true → image r s b ≡ true
   unfolding image
@@ -31,7 +31,7 @@ module _ (r : Rel) (s : Set) (b : ℕ) where
 
 -- an empty set has no targets
 image_none : (r : Rel) (s : Set) → ((x : ℕ) → s x ≡ false) → (b : ℕ) → image r s b ≡ false
-image_none r s none b = never (image r s b) (λ h. let e = image_some r s b h in both_ways (s e.0) (none e.0) e.2)
+image_none r s none b = grind (arith, nat_tests, image_some)
 
 -- the targets of a set are those of one of its events and those of the others
 image_split : (c : ℕ) (s : Set) (r : Rel) → Lowest s c → (b : ℕ) → image r s b ≡ (r c b || image r (dropping c s) b)
@@ -51,26 +51,19 @@ image_split c s r low b = both_same (image r s b) (r c b || image r (dropping c 
 
 -- ---- the loop: before the first turn, one source on, and when none is left
 
-or_assoc : (x y z : Bool) → ((x || y) || z) ≡ (x || (y || z))
-or_assoc true y z = refl
-or_assoc false y z = refl
-
 or_last : (x y : Bool) → y ≡ false → (x || y) ≡ x
 or_last true y e = refl
 or_last false y e = e
 
-pub gather_none : (t : Set) → either (bit 0) t ≡ t
+pub gather_none : (r : Rel) (rest row : ℕ) → rest ≡ row → either (bit 0) (image r (bit rest)) ≡ image r (bit row)
 unfolding either
-gather_none t = fun_ext λ b. ap (λ (x : Bool). x || t b) (bit_zero b)
+gather_none r rest row e = grind (arith, nat_tests, bit_zero)
 
-pub gather_more : (rows : List ℕ) (all c : ℕ) (s s' : Set) → get_or rows c 0 < 2 ^ 64 → Lowest s c → s' ≡ dropping c s
+pub gather_more : (rows : List ℕ) (all c : ℕ) (s s' : Set) → get_or rows c 0 < 2 ^ 64 → Taken s c s'
     → either (bit (bit_or all (get_or rows c 0))) (image (table rows) s') ≡ either (bit all) (image (table rows) s)
 unfolding either
-gather_more rows all c s s' fits low e = fun_ext λ b.
-    ap (λ (x : Bool). x || image (table rows) s' b) (bit-bit_or all (get_or rows c 0) b) ∙ or_assoc (bit all b) (bit (get_or rows c 0) b) (image (table rows) s' b)
-    ∙ ap (λ (x : Bool). bit all b || x)
-    (ap (λ (t : Set). t b || image (table rows) s' b) (row_is rows c low.room fits) ∙ ap (λ (t : Set). table rows c b || image (table rows) t b) e ∙ sym (image_split c s (table rows) low b))
+gather_more rows all c s s' fits taken = grind (arith, nat_tests, bit-bit_or, or_assoc, row_is, image_split)
 
 pub gather_all : (r : Rel) (all : ℕ) (s : Set) → ((x : ℕ) → s x ≡ false) → bit all ≡ either (bit all) (image r s)
 unfolding either
-gather_all r all s none = fun_ext λ b. sym (or_last (bit all b) (image r s b) (image_none r s none b))
+gather_all r all s none = grind (arith, nat_tests, or_last, image_none)

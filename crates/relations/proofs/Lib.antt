@@ -1,3 +1,4 @@
+pub mod Built
 pub mod Closure
 pub mod Images
 pub mod Joins

@@ -1,6 +1,7 @@
 -- On which events the relations of the algebra are.
-use Rattle.std.proofs.Common.{◌≡◌, ℕ, ◌^◌, ◌<◌, ◌≤◌, min, max, true, false, not, ◌&&◌, eqb, ltb, sym, ◌∙◌, ⊎_elim, arith}
-use Rattle.std.proofs.lemmas.Bool.{and_parts, or_cases, ltb-true, eqb-true, cases_Bool, cond-true, cond-false}
+use Rattle.std.proofs.lemmas.Bool.Decides.{nat_tests}
+use Rattle.std.proofs.Common.{◌≡◌, ℕ, ◌^◌, ◌<◌, ◌≤◌, min, max, true, false, not, ⊎_elim, arith}
+use Rattle.std.proofs.lemmas.Bool.{and_parts, or_cases}
 use Rattle.rows.specs.Row.{bit}
 use Rattle.rows.proofs.Bits.{bit_inside}
 use Rattle.relations.specs.declared.kinds.Relation.{Relation}
@@ -8,7 +9,6 @@ use Rattle.relations.specs.Algebra.{Set, Rel, empty, identity, union, inter, dif
 use Rattle.relations.specs.Table.{On}
 use Rattle.relations.specs.View.{rel, size}
 use Rattle.rows.proofs.Any.{any_some}
-use Rattle.relations.proofs.Tables.{never}
 
 pub on_rel : (x : Relation) → On (size x) (rel x)
 unfolding rel
@@ -16,7 +16,7 @@ on_rel x = x.inside
 
 -- an event past them has no targets
 pub rel_past : (x : Relation) (a b : ℕ) → size x ≤ a → rel x a b ≡ false
-rel_past x a b h = never (rel x a b) (λ e. omega (arith, (on_rel x a b e).0))
+rel_past x a b h = grind (arith, nat_tests, on_rel)
 
 pub on_empty : (n : ℕ) → On n empty
 unfolding empty
@@ -24,9 +24,7 @@ on_empty n a b h = absurd (let z : ◌≡◌ {A = ℕ} 0 1 = cc in omega arith)
 
 pub on_identity : (n : ℕ) → On n (identity n)
 unfolding identity
-on_identity n a b h =
-    let p = and_parts (eqb a b) (ltb a n) h in
-    (omega (arith, ltb-true a n p.1), omega (arith, ltb-true a n p.1, eqb-true a b p.0))
+on_identity n a b h = grind (arith, nat_tests)
 
 -- a relation on fewer events is on more
 pub on_more : (m n : ℕ) (r : Rel) → m ≤ n → On m r → On n r
@@ -56,11 +54,11 @@ module _ (n : ℕ) (s t : Set) (a b : ℕ) (h : product (within n s) (within n t
 
   product_parts : (s a ≡ true) × (t b ≡ true)
   unfolding within
-  product_parts = ((and_parts (ltb a n) (s a) ends.0).1, (and_parts (ltb b n) (t b) ends.1).1)
+  product_parts = grind (arith, nat_tests, ends)
 
   pub on_product : (a < n) × (b < n)
   unfolding within
-  on_product = (ltb-true a n (and_parts (ltb a n) (s a) ends.0).0, ltb-true b n (and_parts (ltb b n) (t b) ends.1).0)
+  on_product = grind (arith, nat_tests, ends)
 
 pub on_pair : (n a b : ℕ) → On n (pair n a b)
 unfolding pair
@@ -68,10 +66,7 @@ on_pair n a b = on_product n (only a) (only b)
 
 -- a product of two words, each cut to the first n events
 pub on_words : (m n s t : ℕ) → m ≡ min n 64 → s < 2 ^ 64 → t < 2 ^ 64 → On m (product (within n (bit s)) (within n (bit t)))
-on_words m n s t small hs ht a b h =
-    let p = on_product n (bit s) (bit t) a b h in
-    let q = product_parts n (bit s) (bit t) a b h in
-    (omega (arith, p.0, bit_inside s a hs q.0), omega (arith, p.1, bit_inside t b ht q.1))
+on_words m n s t small hs ht a b h = grind (arith, nat_tests, on_product, product_parts, bit_inside)
 
 pub on_from : (n : ℕ) (s : Set) (r : Rel) → On n r → On n (from s r)
 unfolding from
@@ -83,16 +78,7 @@ on_to n r t on a b h = on a b (and_parts (r a b) (t b) h).0
 
 pub on_replaced : (n a : ℕ) (s : Set) (r : Rel) → On n r → On n (replaced n a s r)
 unfolding replaced within
-on_replaced n a s r on x y h = ⊎_elim here there (cases_Bool (eqb x a && ltb a n))
-  where
-    here : (eqb x a && ltb a n) ≡ true → (x < n) × (y < n)
-    here e =
-        let p = and_parts (eqb x a) (ltb a n) e in
-        let q = and_parts (ltb y n) (s y) (sym (cond-true _ (ltb y n && s y) (r x y) e) ∙ h) in
-        (omega (arith, eqb-true x a p.0, ltb-true a n p.1), ltb-true y n q.0)
-
-    there : (eqb x a && ltb a n) ≡ false → (x < n) × (y < n)
-    there e = on x y (sym (cond-false _ (ltb y n && s y) (r x y) e) ∙ h)
+on_replaced n a s r on x y h = grind (arith, nat_tests)
 
 -- of two relations, on the larger of the two numbers
 module _ (x y : Relation) (n : ℕ) (larger : n ≡ max (size x) (size y)) where
@@ -113,7 +99,4 @@ module _ (x y : Relation) (n : ℕ) (larger : n ≡ max (size x) (size y)) where
 
   pub on_seq : On n (seq (rel x) (rel y))
   unfolding seq
-  on_seq a b h =
-      let e = any_some 64 (λ c. rel x a c && rel y c b) h in
-      let p = and_parts (rel x a e.0) (rel y e.0 b) e.2 in
-      ((on_left a e.0 p.0).0, (on_right e.0 b p.1).1)
+  on_seq a b h = grind (arith, nat_tests, any_some, on_left, on_right)

@@ -1,9 +1,8 @@
 -- One row rewritten, as the algebra says it.
-use Rattle.std.proofs.Common.{◌≡◌, ℕ, ◌<◌, ◌≤◌, Bool, false, ◌⊎◌, List, length, get_or, set, sym, ◌∙◌, ⊎_elim, arith}
+use Rattle.std.proofs.Common.{◌≡◌, ℕ, ◌<◌, ◌≤◌, Bool, false, ◌⊎◌, List, length, get_or, set, arith}
 use mathlib.Core.Path.{fun_ext}
 use lib.Bits.{bit_and}
 use Rattle.std.proofs.lemmas.Bool.Decides.{nat_tests}
-use Rattle.std.proofs.lemmas.Bool.{cases_eq, cases_lt}
 use Rattle.rows.specs.Row.{bit, adding, below}
 use Rattle.rows.proofs.Bits.{bit-bit_and}
 use Rattle.relations.specs.Algebra.{Rel, union, product, within, only, pair, replaced}
@@ -11,20 +10,16 @@ use Rattle.relations.specs.Table.{table}
 use Rattle.relations.proofs.Tables.{table_at, table_far, table_set_same, table_set_other}
 
 -- a table with row a rewritten is r, where r has the same other rows, that row, and no target past the table
-pub set_is : (rows : List ℕ) (a w : ℕ) (r : Rel) → length rows ≡ 64 → a < 64
+pub set_is : (rows : List ℕ) (a w : ℕ) (r : Rel) → a < length rows → a < 64
     → ((b : ℕ) → b < 64 → bit w b ≡ r a b) → ((b : ℕ) → 64 ≤ b → r a b ≡ false) → ((x b : ℕ) → (x ≡ a → ⊥) → table rows x b ≡ r x b)
     → table (set rows a w) ≡ r
-set_is rows a w r long h here past others = fun_ext λ x. fun_ext λ b. ⊎_elim (same x b) (λ n. table_set_other rows a w x b n ∙ others x b n) (cases_eq x a)
-  where
-    same : (x b : ℕ) → x ≡ a → table (set rows a w) x b ≡ r x b
-    same x b e =
-        rw e (⊎_elim (λ k. table_set_same rows a w b long h k ∙ here b k) (λ k. table_far (set rows a w) a b k ∙ sym (past b k)) (cases_lt b 64))
+set_is rows a w r long h here past others = grind (arith, nat_tests, table_set_other, table_set_same, table_far)
 
 -- row a with b added
 pub set_adds : (rows : List ℕ) (n a b w : ℕ) → length rows ≡ 64 → n ≤ 64 → a < n → b < n → bit w ≡ adding b (bit (get_or rows a 0))
     → table (set rows a w) ≡ union (table rows) (pair n a b)
 unfolding union pair product within only adding
-set_adds rows n a b w long few h k e = set_is rows a w (union (table rows) (pair n a b)) long (omega arith) here past others
+set_adds rows n a b w long few h k e = set_is rows a w (union (table rows) (pair n a b)) (omega arith) (omega arith) here past others
   where
     here : (y : ℕ) → y < 64 → bit w y ≡ union (table rows) (pair n a b) a y
     here y l = rw (e, table_at rows a y (omega arith) l) (grind (arith, nat_tests))
@@ -45,7 +40,7 @@ pub set_replaces : (rows : List ℕ) (n a v w : ℕ) → length rows ≡ 64 → 
     → table (set rows a (bit_and w v)) ≡ replaced n a (bit w) (table rows)
 unfolding replaced within below
 set_replaces rows n a v w long few h e =
-    set_is rows a (bit_and w v) (replaced n a (bit w) (table rows)) long (omega arith) (λ y l. rw (bit-bit_and w v y, e) (grind (arith, nat_tests)))
+    set_is rows a (bit_and w v) (replaced n a (bit w) (table rows)) (omega arith) (omega arith) (λ y l. rw (bit-bit_and w v y, e) (grind (arith, nat_tests)))
     (λ y l. grind (arith, nat_tests)) (λ x y z. grind (arith, nat_tests))
 
 -- which changes nothing past the events

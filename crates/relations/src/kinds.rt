@@ -3,7 +3,8 @@ ghost use Rattle.std.specs.Prelude.{◌≤◌};
 ghost use Rattle.relations.specs.Table.{table, On};
 
 // A relation on the events below `events`, of which there are at most 64. Row a has bit b set when a is related to b.
-// No row has a bit at or past `events`, and the rows from there on are empty, so loops end at `events` and no operation masks.
+// No row has a bit at or past `events`, and the rows from there on are empty, so loops end at `events`.
+// The number stands beside an array of fixed size, since nothing here allocates.
 #[derive(Clone, Copy)]
 pub struct Relation {
     pub(crate) rows: [u64; 64],

@@ -19,17 +19,19 @@ impl Relation {
     pub fn has(&self, a: usize, b: usize) -> bool
         ensures { result ≡ rel self.now a b }
     {
-        a < 64 && rows::has(self.rows[a], b)
+        rows::has(self.row(a), b)
     }
 
     // The targets of a.
+    #[tactic(auto, using(crate::proofs::Tables::row_at), unfolding(crate::specs::View::rel))]
     pub fn row(&self, a: usize) -> u64
         ensures { bit result ≡ rel self.now a }
     {
-        if a < 64 { self.rows[a] } else { 0 }
+        self.rows.get(a).copied().unwrap_or(0)
     }
 
     // Adds the pair of a and b. A pair with an end past the events is left out.
+    #[tactic(auto, using(crate::proofs::Writes::set_adds, crate::proofs::Writes::pair_past), unfolding(crate::specs::View::rel))]
     pub fn add(&mut self, a: usize, b: usize)
         ensures pairs { rel self.new ≡ union (rel self.old) (pair (size self.old) a b) }
         ensures events { size self.new ≡ size self.old }
@@ -40,6 +42,7 @@ impl Relation {
     }
 
     // Replaces the targets of a. Targets past the events are left out, and an a past them changes nothing.
+    #[tactic(auto, using(crate::proofs::Writes::set_replaces, crate::proofs::Writes::replaced_past), unfolding(crate::specs::View::rel))]
     pub fn replace(&mut self, a: usize, targets: u64)
         ensures pairs { rel self.new ≡ replaced (size self.old) a (bit targets) (rel self.old) }
         ensures events { size self.new ≡ size self.old }

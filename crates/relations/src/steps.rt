@@ -1,5 +1,5 @@
 // Steps of a relation: one after another, backwards, and chains of any number of them.
-ghost use Rattle.std.specs.Prelude.{◌≡◌, ◌<◌, ◌≤◌, max, Decides};
+ghost use Rattle.std.specs.Prelude.{◌≡◌, ◌<◌, ◌≤◌, length, max, Decides};
 ghost use Rattle.rows.specs.Row.{bit};
 ghost use Rattle.relations.specs.Algebra.{union, inverse, seq, plus, star, product, only, image};
 ghost use Rattle.relations.specs.Chains.{DecidesChains, Acyclic};
@@ -7,18 +7,17 @@ ghost use Rattle.relations.specs.Table.{table, On, via};
 ghost use Rattle.relations.specs.View.{rel, size};
 
 use crate::kinds::Relation;
-use rows::{has, lowest, with, without};
+use rows::{has, members, with};
 
 impl Relation {
     // The targets of all events of a set.
+    #[tactic(auto, using(crate::proofs::Images::gather_none, crate::proofs::Images::gather_more, crate::proofs::Images::gather_all), unfolding(crate::specs::View::rel))]
     pub fn image(&self, sources: u64) -> u64
         ensures { bit result ≡ image (rel self.now) (bit sources) }
     {
         let mut targets = 0;
-        let mut rest = sources;
-        while let Some(a) = lowest(rest) {
+        for a in members(sources) {
             targets |= self.rows[a];
-            rest = without(rest, a);
         }
         targets
     }
@@ -29,11 +28,7 @@ impl Relation {
         ensures events { size result ≡ max (size self.now) (size other.now) }
     {
         let events = self.events.max(other.events);
-        let mut rows = [0; 64];
-        for a in 0..events {
-            rows[a] = other.image(self.rows[a]);
-        }
-        Relation { rows, events }
+        Relation::by_rows(events, |a| other.image(self.rows[a]))
     }
 
     // The pairs turned round.
@@ -42,8 +37,8 @@ impl Relation {
         ensures events { size result ≡ size self.now }
     {
         let mut rows = [0; 64];
-        for a in 0..self.events {
-            scatter(&mut rows, a, self.rows[a]);
+        for (a, targets) in self.rows[..self.events].iter().enumerate() {
+            scatter(&mut rows, a, *targets);
         }
         Relation {
             rows,
@@ -58,8 +53,10 @@ impl Relation {
         ensures events { size result ≡ size self.now }
     {
         let mut rows = self.rows;
+        let joined = &mut rows[..self.events];
+        // k is an event, the one at which steps meet, and no index
         for k in 0..self.events {
-            join_at(&mut rows, self.events, k);
+            join_at(joined, k);
         }
         Relation {
             rows,
@@ -68,6 +65,7 @@ impl Relation {
     }
 
     // No step, one or more.
+    #[tactic(auto, unfolding(crate::specs::Algebra::star))]
     pub fn star(&self) -> Relation
         ensures pairs { rel result ≡ star (size self.now) (rel self.now) }
         ensures events { size result ≡ size self.now }
@@ -80,37 +78,33 @@ impl Relation {
         ensures { Decides result (Acyclic (rel self.now)) }
     {
         let closure = self.plus();
-        for a in 0..self.events {
-            if closure.has(a, a) {
-                return false;
-            }
-        }
-        true
+        !(0..self.events).any(|a| closure.has(a, a))
     }
 }
 
 // Puts a into each of the rows that the set names.
+#[tactic(auto, using(crate::proofs::Turns::scatter_more, crate::proofs::Turns::scatter_all))]
 fn scatter(rows: &mut [u64; 64], a: usize, set: u64)
     requires { a < 64 }
     ensures { table rows.new ≡ union (table rows.old) (product (bit set) (only a)) }
 {
-    let mut rest = set;
-    while let Some(b) = lowest(rest) {
+    for b in members(set) {
         rows[b] = with(rows[b], a);
-        rest = without(rest, b);
     }
 }
 
 // Joins the steps that meet at k. Only rows that have k change, and row k is the same before and after.
-fn join_at(rows: &mut [u64; 64], events: usize, k: usize)
-    requires { (k < events) × ((events ≤ 64) × (On events (table rows.old))) }
+#[tactic(auto, using(crate::proofs::Joins::joined_none, crate::proofs::Joins::joined_all, crate::proofs::Joins::via_none))]
+fn join_at(rows: &mut [u64], k: usize)
+    requires event { k < length rows.old }
+    requires few { length rows.old ≤ 64 }
     ensures { table rows.new ≡ via k (table rows.old) }
 {
     let onward = rows[k];
     if onward != 0 {
-        for a in 0..events {
-            if has(rows[a], k) {
-                rows[a] |= onward;
+        for row in rows.iter_mut() {
+            if has(*row, k) {
+                *row |= onward;
             }
         }
     }

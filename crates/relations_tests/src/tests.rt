@@ -4,7 +4,7 @@ use relations::Relation;
 use searches::{order, shortest_cycle};
 use std::test::Fail;
 
-// Each of n events to the next, and the last to the first.
+// Each of n events to the next, and the last to the first: a relation takes pairs of their numbers.
 fn ring(n: usize) -> Relation {
     let mut x = Relation::empty(n);
     for b in 1..n {
@@ -22,13 +22,9 @@ fn empty_relation(rt: HostRuntime) -> Result<(), Fail> {
     assert!(rt; x.acyclic());
     assert!(rt; x.plus().row(0) == 0);
     assert!(rt; shortest_cycle(&x).is_none());
-    match order(&x) {
-        Some(o) => {
-            assert!(rt; o.places[0] == 0 && o.places[63] == 63);
-            Ok(())
-        },
-        None => Err(Fail::new("an empty relation has an order")),
-    }
+    let o = order(&x).ok_or("an empty relation has an order")?;
+    assert!(rt; o.places[0] == 0 && o.places[63] == 63);
+    Ok(())
 }
 
 #[test]
@@ -55,13 +51,9 @@ fn self_loop(rt: HostRuntime) -> Result<(), Fail> {
     x.add(3, 4);
     x.add(5, 5);
     assert!(rt; !x.acyclic() && order(&x).is_none());
-    match shortest_cycle(&x) {
-        Some(c) => {
-            assert!(rt; c.steps == 1 && c.events[0] == 5);
-            Ok(())
-        },
-        None => Err(Fail::new("a loop is a cycle")),
-    }
+    let c = shortest_cycle(&x).ok_or("a loop is a cycle")?;
+    assert!(rt; c.steps == 1 && c.events[0] == 5);
+    Ok(())
 }
 
 #[test]
@@ -69,13 +61,9 @@ fn ring_of_64(rt: HostRuntime) -> Result<(), Fail> {
     let x = ring(64);
     assert!(rt; !x.acyclic() && order(&x).is_none());
     assert!(rt; x.plus().row(63) == u64::MAX);
-    match shortest_cycle(&x) {
-        Some(c) => {
-            assert!(rt; c.steps == 64 && c.events[0] == 0 && c.events[63] == 63);
-            Ok(())
-        },
-        None => Err(Fail::new("a ring is a cycle")),
-    }
+    let c = shortest_cycle(&x).ok_or("a ring is a cycle")?;
+    assert!(rt; c.steps == 64 && c.events[0] == 0 && c.events[63] == 63);
+    Ok(())
 }
 
 #[test]
@@ -83,13 +71,9 @@ fn full_relation(rt: HostRuntime) -> Result<(), Fail> {
     let x = Relation::product(64, u64::MAX, u64::MAX);
     assert!(rt; x.plus().row(7) == u64::MAX && x.seq(&x).row(7) == u64::MAX);
     let distinct = x.diff(&Relation::identity(64));
-    match shortest_cycle(&distinct) {
-        Some(c) => {
-            assert!(rt; c.steps == 2 && c.events[0] == 0 && c.events[1] == 1);
-            Ok(())
-        },
-        None => Err(Fail::new("two events that are related both ways are a cycle")),
-    }
+    let c = shortest_cycle(&distinct).ok_or("two events that are related both ways are a cycle")?;
+    assert!(rt; c.steps == 2 && c.events[0] == 0 && c.events[1] == 1);
+    Ok(())
 }
 
 // A write w (0), a read of it r (1) and a later write (2): the read comes before the later write.

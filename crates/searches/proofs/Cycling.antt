@@ -1,35 +1,44 @@
 -- Cycles as closed walks, and how one is traced.
-use Rattle.std.proofs.Common.{◌≡◌, ℕ, zero, suc, ◌+◌, ◌-◌, ◌<◌, ◌≤◌, Bool, true, false, cond, ◌&&◌, ltb, List, length, get_or, take, set, sym, refl, ap, ◌∙◌, subst, ap₂, ⊎_elim, add-one, arith}
-use mathlib.Core.Path.{fun_ext}
+use Rattle.std.proofs.Common.{◌≡◌, ℕ, suc, ◌+◌, ◌-◌, ◌<◌, ◌≤◌, Bool, true, false, cond, ◌&&◌, ltb, List, length, get_or, take, set, Option, None, Some, MatchOption, is_some, sym, ap, ◌∙◌, subst, ⊎_elim, add-one, arith}
 use Rattle.std.proofs.lemmas.List.{length-take-le, get_or-take, get_or-set_same, get_or-set_other, length-set}
-use Rattle.std.proofs.lemmas.Bool.{cond-true, cond-false, lt-ltb, le-ltb, cases_lt, cases_eq, cases_order, both_ways}
+use Rattle.std.proofs.lemmas.Bool.{cases_lt, cases_eq, cases_order, both_ways}
 use Rattle.std.proofs.lemmas.Bool.Decides.{nat_tests}
 use Rattle.rows.specs.Row.{Set, bit, adding}
 use Rattle.rows.proofs.Bits.{bit_zero}
 use Rattle.relations.specs.Algebra.{Rel, any, identity, inverse, seq, image}
 use Rattle.relations.specs.Chains.{Acyclic}
 use Rattle.relations.specs.Table.{On}
-use Rattle.searches.specs.Cycles.{IsCycle, IsShortest}
+use Rattle.relations.specs.View.{rel, size}
+use Rattle.relations.specs.declared.kinds.Relation.{Relation}
+use Rattle.relations.proofs.Ranges.{rel_past}
+use Rattle.searches.specs.Cycles.{IsCycle, IsLowestLoop, IsShortest}
 use Rattle.searches.specs.Walks.{walks, reaching}
 use Rattle.searches.proofs.Walking.{walk_append, walk_chain, one_walk, Run, run_walk}
 
--- ---- the events from which one is reached
+-- ---- the lowest event that is related to itself
 
-and_comm : (x y : Bool) → (x && y) ≡ (y && x)
-and_comm true true = refl
-and_comm true false = refl
-and_comm false true = refl
-and_comm false false = refl
+pub lowest_from : (x : Relation) (n : ℕ) (r : Option ℕ) → n ≡ size x
+    → MatchOption r ((a : ℕ) → 0 ≤ a → a < n → rel x a a ≡ false) (λ a. (0 ≤ a) × (a < n) × (rel x a a ≡ true) × ((b : ℕ) → 0 ≤ b → b < a → rel x b b ≡ false))
+    → MatchOption r ((a : ℕ) → rel x a a ≡ false) (λ a. IsLowestLoop (rel x) a)
+lowest_from x n None e none = grind (arith, nat_tests, rel_past)
+lowest_from x n (Some a) e found = grind (arith, nat_tests)
+
+-- where a search for one found none
+pub no_loop : {P : Type 0} (Q : ℕ → Type 0) (r : Option ℕ) (t : Bool) → t ≡ is_some r → t ≡ false → MatchOption r P Q → P
+no_loop Q None t e f none = none
+no_loop Q (Some a) t e f found = absurd (both_ways t f e)
+
+-- ---- the events from which one is reached
 
 -- in no steps
 reaching_none : (w b : ℕ) (r : Rel) → b < 64 → bit w ≡ adding b (bit 0) → bit w ≡ reaching 0 r b
 unfolding reaching walks identity adding
-reaching_none w b r h e = e ∙ (fun_ext λ a. rw (bit_zero a) (grind (arith, nat_tests)))
+reaching_none w b r h e = grind (arith, nat_tests, bit_zero)
 
 -- in one more
 reaching_more : (k b : ℕ) (r : Rel) → image (inverse r) (reaching k r b) ≡ reaching (suc k) r b
 unfolding image inverse reaching walks seq
-reaching_more k b r = fun_ext λ a. ap (any 64) (fun_ext λ c. and_comm (walks k r c b) (r a c))
+reaching_more k b r = grind (arith, nat_tests)
 
 -- the sets below j are known
 pub record Ways (ws : List ℕ) (j : ℕ) (r : Rel) (b : ℕ) : Type 0 where
@@ -37,25 +46,11 @@ pub record Ways (ws : List ℕ) (j : ℕ) (r : Rel) (b : ℕ) : Type 0 where
   pub each : (i : ℕ) → i < j → bit (get_or ws i 0) ≡ reaching i r b
 
 pub ways_first : (ws : List ℕ) (w b : ℕ) (r : Rel) → length ws ≡ 64 → b < 64 → bit w ≡ adding b (bit 0) → Ways (set ws 0 w) 1 r b
-ways_first ws w b r long h e = record { long = length-set ws 0 w ∙ long; each = each }
-  where
-    each : (i : ℕ) → i < 1 → bit (get_or (set ws 0 w) i 0) ≡ reaching i r b
-    each zero l = ap bit (get_or-set_same ws 0 w 0 (omega arith)) ∙ reaching_none w b r h e
-    each (suc i) l = absurd (omega arith)
+ways_first ws w b r long h e = grind (arith, nat_tests, length-set, get_or-set_same, reaching_none)
 
 pub ways_more : (ws : List ℕ) (j w b : ℕ) (r q : Rel) → 0 < j → j < 64 → q ≡ inverse r → bit w ≡ image q (bit (get_or ws (j - 1) 0))
     → Ways ws j r b → Ways (set ws j w) (j + 1) r b
-ways_more ws j w b r q pos h turned e ways = record { long = length-set ws j w ∙ ways.long; each = each }
-  where
-    here : bit w ≡ reaching j r b
-    here =
-        e ∙ ap₂ image turned (ways.each (j - 1) (omega arith)) ∙ reaching_more (j - 1) b r
-        ∙ (let n : suc (j - 1) ≡ j = omega arith in ap (λ (x : ℕ). reaching x r b) n)
-
-    each : (i : ℕ) → i < j + 1 → bit (get_or (set ws j w) i 0) ≡ reaching i r b
-    each i l =
-        ⊎_elim (λ z. rw z (ap bit (get_or-set_same ws j w 0 (omega (arith, ways.long))) ∙ here))
-        (λ z. ap bit (get_or-set_other ws j i w 0 z) ∙ ways.each i (omega arith)) (cases_eq i j)
+ways_more ws j w b r q pos h turned e ways = grind (arith, nat_tests, length-set, reaching_more, get_or-set_same, get_or-set_other)
 
 -- ---- a cycle of k steps from start, traced as far as the event before i
 
@@ -66,15 +61,7 @@ pub record Trail (r : Rel) (es : List ℕ) (i k start : ℕ) : Type 0 where
   pub left : walks (suc (k - i)) r (get_or es (i - 1) 0) start ≡ true
 
 pub trail_first : (r : Rel) (es : List ℕ) (k start : ℕ) → length es ≡ 64 → 0 < k → walks k r start start ≡ true → Trail r (set es 0 start) 1 k start
-trail_first r es k start long pos closed =
-    let head = get_or-set_same es 0 start 0 (omega arith) in
-    let n : k ≡ suc (k - 1) = omega arith in
-    record {
-      long = length-set es 0 start ∙ long;
-      head = head;
-      steps = λ j l. absurd (omega arith);
-      left = subst (λ (x : ℕ). walks (suc (k - 1)) r x start ≡ true) (sym head) (subst (λ (x : ℕ). walks x r start start ≡ true) n closed);
-    }
+trail_first r es k start long pos closed = grind (arith, nat_tests, get_or-set_same, length-set)
 
 -- there is a next event
 pub trail_goes : (r : Rel) (es ws : List ℕ) (i k start v : ℕ) → 0 < i → i < k → Trail r es i k start → ((j : ℕ) → j < k → bit (get_or ws j 0) ≡ reaching j r start) → bit v ≡ r (get_or es (i - 1) 0)
@@ -146,26 +133,17 @@ around es i = cond (ltb i (length es)) (get_or es i 0) (get_or es 0 0)
 module _ (r : Rel) (es : List ℕ) (on : On 64 r) (c : IsCycle r es) where
   around_in : (i : ℕ) → i < length es → around es i ≡ get_or es i 0
   unfolding around
-  around_in i l = cond-true (ltb i (length es)) (get_or es i 0) (get_or es 0 0) (lt-ltb i (length es) l)
+  around_in i l = grind (arith, nat_tests)
 
   around_end : around es (length es) ≡ get_or es 0 0
   unfolding around
-  around_end = cond-false (ltb (length es) (length es)) (get_or es (length es) 0) (get_or es 0 0) (le-ltb (length es) (length es) (omega arith))
+  around_end = grind (arith, nat_tests)
 
   around_run : Run r (around es) (length es)
-  around_run i l = ⊎_elim inner last (cases_lt (suc i) (length es))
-    where
-      inner : suc i < length es → r (around es i) (around es (suc i)) ≡ true
-      inner m = rw (around_in i l, around_in (suc i) m) (c.steps i m)
-
-      last : length es ≤ suc i → r (around es i) (around es (suc i)) ≡ true
-      last m =
-          let p : suc i ≡ length es = omega arith in
-          let q : i ≡ length es - 1 = omega arith in
-          rw (around_in i l, p, around_end) (subst (λ (x : ℕ). r (get_or es x 0) (get_or es 0 0) ≡ true) (sym q) c.back)
+  around_run i l = grind (arith, nat_tests, around, around_in, around_end)
 
   small : (i : ℕ) → i < length es → get_or es i 0 < 64
-  small i l = subst (λ (x : ℕ). x < 64) (around_in i l) (on (around es i) (around es (suc i)) (around_run i l)).0
+  small i l = grind (arith, nat_tests)
 
   -- from one event of the cycle to a later one, and to the first again
   stretch : (i j : ℕ) → i ≤ j → j < length es → walks (j - i) r (get_or es i 0) (get_or es j 0) ≡ true
@@ -189,24 +167,22 @@ module _ (r : Rel) (es : List ℕ) (on : On 64 r) (c : IsCycle r es) where
       subst (λ (x : ℕ). walks x r (get_or es i 0) (get_or es i 0) ≡ true) n
       (walk_append (length es - i) (i - 0) r (get_or es i 0) (get_or es 0 0) (get_or es i 0) (home i l) (stretch 0 i (omega arith) l))
 
--- a cycle of k + 1 steps is a shortest one from its lowest event, if no closed walk is shorter and none of its length begins lower
-pub shortest_from : (k : ℕ) (r : Rel) (es : List ℕ) → On 64 r → IsCycle r es → length es ≡ suc k
-    → ((m b : ℕ) → m < k → walks (suc m) r b b ≡ false) → ((b : ℕ) → b < get_or es 0 0 → walks (suc k) r b b ≡ false) → IsShortest r es
+-- a cycle of k steps is a shortest one from its lowest event, if no closed walk is shorter and none of its length begins lower
+pub shortest_from : (k : ℕ) (r : Rel) (es : List ℕ) → On 64 r → IsCycle r es → length es ≡ k
+    → ((m b : ℕ) → 1 ≤ m → m < k → walks m r b b ≡ false) → ((b : ℕ) → b < get_or es 0 0 → walks k r b b ≡ false) → IsShortest r es
 shortest_from k r es on c size none first = record { cycle = c; lowest = lowest; once = once; least = least }
   where
-    closed : (fs : List ℕ) → IsCycle r fs → (m : ℕ) → length fs ≡ suc m → (i : ℕ) → i < length fs → walks (suc m) r (get_or fs i 0) (get_or fs i 0) ≡ true
-    closed fs d m e i l = subst (λ (x : ℕ). walks x r (get_or fs i 0) (get_or fs i 0) ≡ true) e (cycle_closed r fs on d i l)
+    closed : (i : ℕ) → i < length es → walks k r (get_or es i 0) (get_or es i 0) ≡ true
+    closed i l = subst (λ (x : ℕ). walks x r (get_or es i 0) (get_or es i 0) ≡ true) size (cycle_closed r es on c i l)
 
     lowest : (i : ℕ) → i < length es → get_or es 0 0 ≤ get_or es i 0
-    lowest i l = ⊎_elim (λ h. absurd (both_ways _ (first (get_or es i 0) h) (closed es c k size i l))) (λ h. h) (cases_lt (get_or es i 0) (get_or es 0 0))
+    lowest i l = ⊎_elim (λ h. absurd (both_ways _ (first (get_or es i 0) h) (closed i l))) (λ h. h) (cases_lt (get_or es i 0) (get_or es 0 0))
 
     -- two places of one event would leave a shorter closed walk between them
     apart : (i j : ℕ) → i < j → j < length es → get_or es i 0 ≡ get_or es j 0 → ⊥
     apart i j h l e =
-        let n : j - i ≡ suc (j - i - 1) = omega arith in
-        both_ways _ (none (j - i - 1) (get_or es i 0) (omega arith))
-        (subst (λ (x : ℕ). walks x r (get_or es i 0) (get_or es i 0) ≡ true) n
-        (subst (λ (x : ℕ). walks (j - i) r (get_or es i 0) x ≡ true) (sym e) (stretch r es on c i j (omega arith) l)))
+        both_ways _ (none (j - i) (get_or es i 0) (omega arith) (omega arith))
+        (subst (λ (x : ℕ). walks (j - i) r (get_or es i 0) x ≡ true) (sym e) (stretch r es on c i j (omega arith) l))
 
     once : (i j : ℕ) → i < length es → j < length es → get_or es i 0 ≡ get_or es j 0 → i ≡ j
     once i j h l e = ⊎_elim (λ z. z) (λ z. ⊎_elim (λ lt. absurd (apart i j lt l e)) (λ gt. absurd (apart j i gt h (sym e))) z) (cases_order i j)
@@ -215,9 +191,7 @@ shortest_from k r es on c size none first = record { cycle = c; lowest = lowest;
     least fs d = ⊎_elim (λ h. absurd (shorter h)) (λ h. h) (cases_lt (length fs) (length es))
       where
         shorter : length fs < length es → ⊥
-        shorter h =
-            let n : length fs ≡ suc (length fs - 1) = omega (arith, d.some) in
-            both_ways _ (none (length fs - 1) (get_or fs 0 0) (omega (arith, d.some))) (closed fs d (length fs - 1) n 0 d.some)
+        shorter h = both_ways _ (none (length fs) (get_or fs 0 0) d.some (omega arith)) (cycle_closed r fs on d 0 d.some)
 
 -- ---- and so the relation is not acyclic
 pub cycle_comes_back : (r : Rel) (es : List ℕ) → On 64 r → IsCycle r es → Acyclic r → ⊥
@@ -228,16 +202,13 @@ cycle_comes_back r es on c none =
 
 -- ---- the powers of a relation, one after another
 
-module _ (p r : Rel) (k : ℕ) (power : p ≡ walks (suc k) r) where
-  pub power_at : (a b : ℕ) (t : Bool) → p a b ≡ t → walks (suc k) r a b ≡ t
+module _ (p r : Rel) (k : ℕ) (power : p ≡ walks k r) where
+  pub power_at : (a b : ℕ) (t : Bool) → p a b ≡ t → walks k r a b ≡ t
   power_at a b t h = sym (ap (λ (q : Rel). q a b) power) ∙ h
 
-  pub power_closed : (a : ℕ) → p a a ≡ true → walks (k + 1) r a a ≡ true
-  power_closed a h = subst (λ (n : ℕ). walks n r a a ≡ true) (sym (add-one k)) (power_at a a true h)
-
-  pub power_more : (q : Rel) → q ≡ seq r p → q ≡ walks (suc (k + 1)) r
+  pub power_more : (q : Rel) → q ≡ seq r p → q ≡ walks (k + 1) r
   unfolding walks
-  power_more q e = e ∙ ap (seq r) power ∙ ap (λ (n : ℕ). seq r (walks n r)) (sym (add-one k))
+  power_more q e = rw (add-one k, sym power) e
 
-  pub power_none : ((m b : ℕ) → m < k → walks (suc m) r b b ≡ false) → ((b : ℕ) → p b b ≡ false) → (m b : ℕ) → m < k + 1 → walks (suc m) r b b ≡ false
-  power_none none here m b l = ⊎_elim (λ z. rw z (power_at b b false (here b))) (λ z. none m b (omega arith)) (cases_eq m k)
+  pub power_none : ((m b : ℕ) → 1 ≤ m → m < k → walks m r b b ≡ false) → ((b : ℕ) → p b b ≡ false) → (m b : ℕ) → 1 ≤ m → m < k + 1 → walks m r b b ≡ false
+  power_none none here m b some l = ⊎_elim (λ z. rw z (power_at b b false (here b))) (λ z. none m b some (omega arith)) (cases_eq m k)

@@ -1,8 +1,9 @@
 -- Ranks by keys, and keys that rise along a closure.
-use Rattle.std.proofs.Common.{◌≡◌, ℕ, zero, suc, ◌+◌, ◌<◌, ◌≤◌, true, false, ltb, sym, refl, ◌∙◌, ⊎_elim, add-one, arith}
+use Rattle.std.proofs.Common.{◌≡◌, ℕ, zero, suc, ◌+◌, ◌<◌, ◌≤◌, Bool, true, false, cond, ltb, List, [], ◌∷◌, length, get_or, count_by, sym, refl, ap, ◌∙◌, ap₂, ⊎_elim, arith}
 use Rattle.std.proofs.lemmas.Bool.{lt-ltb, le-ltb, ltb-true, cases_order}
-use Rattle.rows.specs.Row.{count}
-use Rattle.rows.proofs.Words.{count_le, count_lacks}
+use Rattle.std.proofs.lemmas.List.Sums.{sum_by-cons}
+use Rattle.rows.specs.Row.{count, tick}
+use Rattle.rows.proofs.Words.{count_lacks, count_first}
 use Rattle.relations.specs.Algebra.{Rel, inverse}
 use Rattle.relations.specs.Chains.{one, DecidesChains}
 use Rattle.relations.specs.Table.{On}
@@ -13,22 +14,15 @@ use Rattle.searches.specs.Places.{IsOrder}
 
 -- ---- ranks
 
-pub rank_none : (keys : ℕ → ℕ) (k : ℕ) → 0 ≡ rank 0 keys k
-unfolding rank count
-rank_none keys k = refl
-
--- one key more
-pub rank_yes : (n : ℕ) (keys : ℕ → ℕ) (k m : ℕ) → keys n < k → m ≡ rank n keys k → m + 1 ≡ rank (n + 1) keys k
-unfolding rank count
-rank_yes n keys k m h e = rw (add-one n, lt-ltb (keys n) k h) (omega arith)
-
-pub rank_no : (n : ℕ) (keys : ℕ → ℕ) (k m : ℕ) → k ≤ keys n → m ≡ rank n keys k → m ≡ rank (n + 1) keys k
-unfolding rank count
-rank_no n keys k m h e = rw (add-one n, le-ltb (keys n) k h) (omega arith)
-
-pub rank_le : (n : ℕ) (keys : ℕ → ℕ) (k : ℕ) → rank n keys k ≤ n
-unfolding rank
-rank_le n keys k = count_le n (λ b. ltb (keys b) k)
+-- how many keys of a list pass a test
+pub counted : (keys : List ℕ) (test : ℕ → Bool) → count_by test keys ≡ count (length keys) (λ b. test (get_or keys b 0))
+unfolding count
+counted [] test = refl
+counted (k ∷ keys) test = sum_by-cons (λ x. cond (test x) 1 0) k keys ∙ ap₂ ◌+◌ (ticked (test k)) (counted keys test) ∙ sym (count_first (length keys) (λ b. test (get_or (k ∷ keys) b 0)))
+  where
+    ticked : (t : Bool) → cond t 1 0 ≡ tick t
+    ticked true = refl
+    ticked false = refl
 
 -- a smaller key has a lower rank
 rank_rises : (n : ℕ) (keys : ℕ → ℕ) (a b : ℕ) → a < n → keys a < keys b → rank n keys (keys a) < rank n keys (keys b)
@@ -61,21 +55,27 @@ key_apart p a b h l e = omega arith
 
 -- ---- so ranks by these keys are an order
 
-pub order_from : (r s p : Rel) (n : ℕ) (keys place : ℕ → ℕ) → n ≤ 64 → On n r → DecidesChains s r → ((x : ℕ) → s x x ≡ false) → p ≡ inverse s
-    → ((a : ℕ) → a < n → keys a ≡ key p a) → ((a : ℕ) → a < n → place a ≡ rank n keys (keys a)) → IsOrder r n place
-order_from r s p n keys place few on chains none turned known ranked = record {
-  below = λ a l. rw (ranked a l) (rank_below n keys a l);
+pub order_from : (r s p : Rel) (n : ℕ) (keys : List ℕ) (place : ℕ → ℕ) → n ≤ 64 → length keys ≡ n → On n r → DecidesChains s r → ((x : ℕ) → s x x ≡ false) → p ≡ inverse s
+    → ((a : ℕ) → a < n → get_or keys a 0 ≡ key p a) → ((a : ℕ) → a < n → place a ≡ rank (length keys) (λ b. get_or keys b 0) (get_or keys a 0)) → IsOrder r n place
+order_from r s p n keys place few long on chains none turned known ranked = record {
+  below = λ a l. rw (at a l) (rank_below n of a l);
   apart = apart;
   rising = λ a b h. place_rises a b (on a b h).0 (on a b h).1 (keys_rise a b h);
 }
   where
-    keys_rise : (a b : ℕ) → r a b ≡ true → keys a < keys b
+    of : ℕ → ℕ
+    of a = get_or keys a 0
+
+    at : (a : ℕ) → a < n → place a ≡ rank n of (of a)
+    at a l = ranked a l ∙ ap (λ (m : ℕ). rank m of (of a)) long
+
+    keys_rise : (a b : ℕ) → r a b ≡ true → of a < of b
     keys_rise a b h = rw (known a (on a b h).0, known b (on a b h).1, turned) (key_rises r s a b (on_more n 64 r few on) chains none h)
 
-    place_rises : (a b : ℕ) → a < n → b < n → keys a < keys b → place a < place b
-    place_rises a b l m h = rw (ranked a l, ranked b m) (rank_rises n keys a b l h)
+    place_rises : (a b : ℕ) → a < n → b < n → of a < of b → place a < place b
+    place_rises a b l m h = rw (at a l, at b m) (rank_rises n of a b l h)
 
     apart : (a b : ℕ) → a < n → b < n → place a ≡ place b → a ≡ b
     apart a b l m e =
         ⊎_elim (λ z. key_apart p a b (omega arith) (omega arith) (sym (known a l) ∙ z ∙ known b m))
-        (λ z. ⊎_elim (λ h. absurd (omega (arith, place_rises a b l m h))) (λ h. absurd (omega (arith, place_rises b a m l h))) z) (cases_order (keys a) (keys b))
+        (λ z. ⊎_elim (λ h. absurd (omega (arith, place_rises a b l m h))) (λ h. absurd (omega (arith, place_rises b a m l h))) z) (cases_order (of a) (of b))

@@ -1,7 +1,7 @@
 -- Walks and chains, cycles and closed walks.
+use Rattle.std.proofs.lemmas.Bool.Decides.{nat_tests}
 use Rattle.std.proofs.Common.{◌≡◌, ℕ, zero, suc, ◌+◌, ◌-◌, ◌<◌, ◌≤◌, true, false, ◌&&◌, eqb, ltb, sym, refl, ap, ◌∙◌, subst, ⊎_elim, add-zero, suc-add, zero-add, arith}
-use mathlib.Core.Path.{fun_ext}
-use Rattle.std.proofs.lemmas.Bool.{and_parts, and_from, eq-eqb, eqb-true, lt-ltb, cases_lt, both_ways}
+use Rattle.std.proofs.lemmas.Bool.{and_parts, and_from, eqb-true, cases_lt, both_ways}
 use Rattle.relations.specs.Algebra.{Rel, identity, seq}
 use Rattle.relations.specs.Chains.{Chain, one, step, Acyclic}
 use Rattle.relations.specs.Table.{On}
@@ -15,10 +15,7 @@ use Rattle.searches.proofs.Holes.{shared}
 
 pub walk_first : (k : ℕ) (r : Rel) (a b : ℕ) → walks (suc k) r a b ≡ true → (c : ℕ) × (c < 64) × (r a c ≡ true) × (walks k r c b ≡ true)
 unfolding walks seq
-walk_first k r a b h =
-    let e = any_some 64 (λ c. r a c && walks k r c b) h in
-    let p = and_parts (r a e.0) (walks k r e.0 b) e.2 in
-    (e.0, e.1, p.0, p.1)
+walk_first k r a b h = grind (arith, nat_tests, any_some)
 
 pub walk_step : (k : ℕ) (r : Rel) (a c b : ℕ) → c < 64 → r a c ≡ true → walks k r c b ≡ true → walks (suc k) r a b ≡ true
 unfolding walks seq
@@ -26,7 +23,7 @@ walk_step k r a c b l h g = any_from 64 c (λ x. r a x && walks k r x b) l (and_
 
 pub walk_none : (r : Rel) (a : ℕ) → a < 64 → walks zero r a a ≡ true
 unfolding walks identity
-walk_none r a h = and_from (eqb a a) (ltb a 64) (eq-eqb a a refl) (lt-ltb a 64 h)
+walk_none r a h = grind (arith, nat_tests)
 
 pub walk_stays : (r : Rel) (a b : ℕ) → walks zero r a b ≡ true → a ≡ b
 unfolding walks identity
@@ -42,7 +39,7 @@ closed_begins (suc k) r a on h w = walk_begins 64 k r a a on w
 
 -- one walk after another
 pub walk_append : (m n : ℕ) (r : Rel) (a b c : ℕ) → walks m r a b ≡ true → walks n r b c ≡ true → walks (m + n) r a c ≡ true
-walk_append zero n r a b c h g = subst (λ (x : ℕ). walks x r a c ≡ true) (sym (zero-add n)) (subst (λ (x : ℕ). walks n r x c ≡ true) (sym (walk_stays r a b h)) g)
+walk_append zero n r a b c h g = grind (arith, nat_tests, zero-add, walk_stays)
 walk_append (suc m) n r a b c h g =
     let e = walk_first m r a b h in
     subst (λ (x : ℕ). walks x r a c ≡ true) (sym (suc-add m n)) (walk_step (m + n) r a e.0 c e.1 e.2 (walk_append m n r e.0 b c e.3 g))
@@ -52,11 +49,11 @@ pub walk_one : (r : Rel) (a b : ℕ) → On 64 r → r a b ≡ true → walks 1 
 walk_one r a b on h = walk_step zero r a b b (on a b h).1 h (walk_none r b (on a b h).1)
 
 pub one_walk : (r : Rel) (a b : ℕ) → walks 1 r a b ≡ true → r a b ≡ true
-one_walk r a b h = let e = walk_first zero r a b h in subst (λ (x : ℕ). r a x ≡ true) (walk_stays r e.0 b e.3) e.2
+one_walk r a b h = grind (arith, nat_tests, walk_first, walk_stays)
 
 -- and so the walks of one step are the relation
 pub walks_one : (r : Rel) → On 64 r → r ≡ walks 1 r
-walks_one r on = fun_ext λ a. fun_ext λ b. both_same (r a b) (walks 1 r a b) (walk_one r a b on) (one_walk r a b)
+walks_one r on = grind (arith, nat_tests, both_same, walk_one, one_walk)
 
 -- a chain is a walk
 pub chain_walk : (r : Rel) {a b : ℕ} → On 64 r → Chain r a b → (k : ℕ) × (walks (suc k) r a b ≡ true)
@@ -76,7 +73,7 @@ Run r f n = (i : ℕ) → i < n → r (f i) (f (suc i)) ≡ true
 
 -- any stretch of it is a walk
 pub run_walk : (d i n : ℕ) (r : Rel) (f : ℕ → ℕ) → On 64 r → Run r f n → f i < 64 → i + d ≤ n → walks d r (f i) (f (i + d)) ≡ true
-run_walk zero i n r f on run h l = subst (λ (x : ℕ). walks zero r (f i) (f x) ≡ true) (sym (add-zero i)) (walk_none r (f i) h)
+run_walk zero i n r f on run h l = grind (arith, nat_tests, add-zero, walk_none)
 run_walk (suc d) i n r f on run h l =
     let e = run i (omega arith) in
     let far = (on (f i) (f (suc i)) e).1 in

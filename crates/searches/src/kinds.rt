@@ -2,6 +2,7 @@
 ghost use Rattle.std.specs.Prelude.{◌≤◌};
 
 // A cycle: the first `steps` of the events, in turn, and then the first again.
+// The number stands beside an array of fixed size, since nothing here allocates.
 #[derive(Clone, Copy)]
 pub struct Cycle {
     pub events: [u8; 64],

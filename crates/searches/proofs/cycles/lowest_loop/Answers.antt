@@ -1,7 +1,11 @@
-use Rattle.std.proofs.Common.{⊎_elim, arith}
-use Rattle.std.proofs.lemmas.Bool.{cases_lt}
-use Rattle.relations.proofs.Ranges.{rel_past}
+use Rattle.std.proofs.Common.{◌≡◌, true, false, rules, tests}
+use Rattle.std.proofs.lemmas.Iterator.{first_from_Range}
+use Rattle.relations.specs.View.{rel}
+use Rattle.searches.proofs.Cycling.{lowest_from}
 use Rattle.searches.proofs.cycles.lowest_loop.Goals as goal
 
 pub returns : goal.returns
-returns c a = ⊎_elim (λ l. c.loop-a.invariant a l) (λ l. rel_past c.args.x.now a a (omega arith)) (cases_lt a c.loop-a.a)
+returns c =
+    lowest_from c.args.x.now c.events.result c.find.result c.events.ensures
+    (first_from_Range _ _ _ c.find.result (λ a. rel c.args.x.now a a ≡ true) (λ a. rel c.args.x.now a a ≡ false) c.find.ensures.ran
+    (λ a q k. search (rules, tests)) (λ a q k. search (rules, tests)))

@@ -1,11 +1,8 @@
-use Rattle.searches.proofs.Meets.{meet_none, meet_parts}
+use Rattle.searches.proofs.Meets.{meet_some, meet_parts}
 use Rattle.searches.proofs.cycles.onward.Goals as goal
 
-pub unreachable-requires : goal.unreachable-requires
-unreachable-requires c = meet_none _ _ c.requires c.in-None.ensures
+pub unwrap-requires : goal.unwrap-requires
+unwrap-requires c = meet_some _ _ _ c.requires c.lowest.ensures
 
 pub returns : goal.returns
-returns c =
-    let low = c.in-Some.ensures in
-    let both = meet_parts _ _ _ low in
-    (low.room, (both.0, both.1))
+returns c = meet_parts _ _ _ _ c.unwrap.ensures c.lowest.ensures

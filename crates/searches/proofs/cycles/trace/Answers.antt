@@ -6,13 +6,13 @@ use Rattle.searches.proofs.Walking.{closed_begins}
 use Rattle.searches.proofs.cycles.trace.Goals as goal
 
 pub approaches-ways-requires : goal.approaches-ways-requires
-approaches-ways-requires c = (closed_begins _ _ _ (on_all c.args.x.now) c.requires.0 c.requires.1.1, omega arith)
+approaches-ways-requires c = record { event = closed_begins _ _ _ (on_all c.args.x.now) c.requires.some c.requires.closed; few = omega arith }
 
 pub overflow_cast-events : goal.overflow_cast-events
-overflow_cast-events c = omega (arith, closed_begins _ _ _ (on_all c.args.x.now) c.requires.0 c.requires.1.1)
+overflow_cast-events c = omega (arith, closed_begins _ _ _ (on_all c.args.x.now) c.requires.some c.requires.closed)
 
 pub loop-i-init : goal.loop-i-init
-loop-i-init c = trail_first _ (replicate 64 0) _ _ refl (omega arith) c.requires.1.1
+loop-i-init c = trail_first _ (replicate 64 0) _ _ refl (omega arith) c.requires.closed
 
 pub onward-requires : goal.onward-requires
 onward-requires c = trail_goes _ _ _ _ _ _ _ (omega arith) (omega arith) c.loop-i.invariant c.approaches-ways.ensures c.row.ensures
@@ -20,7 +20,7 @@ onward-requires c = trail_goes _ _ _ _ _ _ _ (omega arith) (omega arith) c.loop-
 pub loop-i-preserved : goal.loop-i-preserved
 loop-i-preserved c =
     trail_more _ _ _ _ _ _ _ _ (omega arith) (omega arith) (omega arith) c.loop-i.invariant c.approaches-ways.ensures c.row.ensures
-    c.onward.ensures.1.0 c.onward.ensures.1.1
+    c.onward.ensures.target c.onward.ensures.way
 
 pub returns : goal.returns
 unfolding listed

@@ -1,6 +1,5 @@
-use Rattle.std.proofs.Common.{◌≡◌, get_or}
-use Rattle.searches.specs.Keys.{rank}
+use Rattle.std.proofs.Common.{◌≡◌, ltb, take, count_by}
 use Rattle.searches.proofs.orders.rank.Given as goal
 
-abbrev pub invariant-loop-b : goal.invariant-loop-b
-invariant-loop-b l = l.below ≡ rank l.b (λ b. get_or l.keys b 0) l.key
+abbrev pub invariant-loop-other : goal.invariant-loop-other
+invariant-loop-other l = l.below ≡ count_by (λ k. ltb k l.key) (take l.other-index l.keys)

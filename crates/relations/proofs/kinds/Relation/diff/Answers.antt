@@ -1,24 +1,13 @@
-use Rattle.std.proofs.Common.{arith}
+use Rattle.std.proofs.Common.{ℕ, ap, ◌∙◌, rules, arith}
+use Rattle.rows.specs.Row.{bit}
 use Rattle.relations.specs.View.{rel}
-use Rattle.relations.proofs.Tables.{done_none, done_more, done_is, done_owes}
+use Rattle.relations.proofs.Built.{rows_are}
 use Rattle.relations.proofs.Ranges.{on_diff}
 use Rattle.relations.proofs.Rows.{diff_row}
 use Rattle.relations.proofs.kinds.Relation.diff.Goals as goal
 
-pub loop-a-init : goal.loop-a-init
-loop-a-init c = done_none _
-
-pub loop-a-preserved : goal.loop-a-preserved
+pub returns-clause-pairs : goal.returns-clause-pairs
 unfolding rel
-loop-a-preserved c = done_more _ _ _ _ (omega arith) c.loop-a.invariant (diff_row _ _ _ (omega arith) (omega arith))
-
-pub invariant_of-result : goal.invariant_of-result
-unfolding rel
-invariant_of-result c = done_owes _ _ _ _ (omega arith) (omega arith) (on_diff c.args.self.now c.args.other.now _ c.max-events.ensures) c.loop-a.invariant
-
-pub returns : goal.returns
-unfolding rel
-returns c = record {
-  pairs = done_is _ _ _ _ (omega arith) (omega arith) (on_diff c.args.self.now c.args.other.now _ c.max-events.ensures) c.loop-a.invariant;
-  events = c.max-events.ensures;
-}
+returns-clause-pairs c =
+    rows_are c.by_rows.result _ _ c.by_rows.ensures.events (on_diff c.args.self.now c.args.other.now _ (omega arith)) c.by_rows.ensures.rows
+    (λ a w l fits p b k. ap (λ (v : ℕ). bit v b) (search rules) ∙ diff_row c.args.self.now.rows c.args.other.now.rows a (omega arith) (omega arith) b (omega arith))

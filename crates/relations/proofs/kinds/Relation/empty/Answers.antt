@@ -1,13 +1,12 @@
 use Rattle.std.proofs.Common.{arith}
-use Rattle.relations.specs.Algebra.{empty}
 use Rattle.relations.specs.View.{rel}
-use Rattle.relations.proofs.Tables.{done_empty, done_is, done_owes}
+use Rattle.relations.proofs.Tables.{owes, table_zeros}
 use Rattle.relations.proofs.Ranges.{on_empty}
 use Rattle.relations.proofs.kinds.Relation.empty.Goals as goal
 
 pub invariant_of-result : goal.invariant_of-result
-invariant_of-result c = done_owes _ 64 _ empty (omega arith) (omega arith) (on_empty _) (done_empty 64)
+invariant_of-result c = owes _ _ _ (omega arith) (on_empty _) table_zeros
 
-pub returns : goal.returns
+pub returns-clause-pairs : goal.returns-clause-pairs
 unfolding rel
-returns c = record { pairs = done_is _ 64 64 empty (omega arith) (omega arith) (on_empty 64) (done_empty 64); events = c.min.ensures }
+returns-clause-pairs c = table_zeros

@@ -1,4 +1,5 @@
 use Rattle.std.proofs.Common.{refl, ◌∙◌, arith}
+use Rattle.std.proofs.lemmas.List.{get_or-take}
 use Rattle.relations.specs.View.{rel}
 use Rattle.relations.proofs.Ranges.{on_rel}
 use Rattle.relations.proofs.Tables.{owes}
@@ -10,7 +11,7 @@ loop-a-init c = turn_none _
 
 pub loop-a-preserved : goal.loop-a-preserved
 unfolding rel
-loop-a-preserved c = c.scatter.ensures ∙ turn_more c.args.self.now.rows _ _ (omega arith) (omega arith) c.loop-a.invariant
+loop-a-preserved c = c.scatter.ensures ∙ turn_more c.args.self.now.rows c.loop-a.a _ _ (omega arith) (get_or-take c.args.self.now.events _ c.loop-a.a _ (omega arith)) (omega arith) c.loop-a.invariant
 
 pub invariant_of-result : goal.invariant_of-result
 invariant_of-result c =

@@ -5,4 +5,4 @@ use Rattle.relations.specs.View.{rel}
 use Rattle.relations.proofs.kinds.Relation.plus.Given as goal
 
 abbrev pub invariant-loop-k : goal.invariant-loop-k
-invariant-loop-k l = table l.rows ≡ paths l.k (rel l.self)
+invariant-loop-k l = table l.joined ≡ paths l.k (rel l.self)

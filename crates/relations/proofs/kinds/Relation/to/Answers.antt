@@ -1,24 +1,13 @@
-use Rattle.std.proofs.Common.{refl, arith}
+use Rattle.std.proofs.Common.{ℕ, ap, ◌∙◌, rules, arith}
+use Rattle.rows.specs.Row.{bit}
 use Rattle.relations.specs.View.{rel}
-use Rattle.relations.proofs.Tables.{done_none, done_more, done_is, done_owes}
-use Rattle.relations.proofs.Ranges.{on_rel, on_to}
+use Rattle.relations.proofs.Built.{rows_are}
+use Rattle.relations.proofs.Ranges.{on_more, on_rel, on_to}
 use Rattle.relations.proofs.Rows.{to_row}
 use Rattle.relations.proofs.kinds.Relation.to.Goals as goal
 
-pub loop-a-init : goal.loop-a-init
-loop-a-init c = done_none _
-
-pub loop-a-preserved : goal.loop-a-preserved
+pub returns-clause-pairs : goal.returns-clause-pairs
 unfolding rel
-loop-a-preserved c = done_more _ _ _ _ (omega arith) c.loop-a.invariant (to_row _ _ _ (omega arith))
-
-pub invariant_of-result : goal.invariant_of-result
-unfolding rel
-invariant_of-result c = done_owes _ _ _ _ (omega arith) (omega arith) (on_to _ _ _ (on_rel c.args.self.now)) c.loop-a.invariant
-
-pub returns : goal.returns
-unfolding rel
-returns c = record {
-  pairs = done_is _ _ _ _ (omega arith) (omega arith) (on_to _ _ _ (on_rel c.args.self.now)) c.loop-a.invariant;
-  events = refl;
-}
+returns-clause-pairs c =
+    rows_are c.by_rows.result _ _ c.by_rows.ensures.events (on_more _ _ _ (omega arith) (on_to _ _ _ (on_rel c.args.self.now))) c.by_rows.ensures.rows
+    (λ a w l fits p b k. ap (λ (v : ℕ). bit v b) (search rules) ∙ to_row c.args.self.now.rows a c.args.targets (omega arith) b (omega arith))
