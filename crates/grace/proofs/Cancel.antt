@@ -1,5 +1,6 @@
 -- Law to rule: where the fences order each section and each period and no fence is closed by a link, there is no round.
-use Rattle.std.proofs.Common.{◌≡◌, ℕ, zero, suc, ◌+◌, ◌≤◌, ◌⊎◌, inl, inr, arith}
+use Rattle.std.proofs.lemmas.Bool.Decides.{nat_tests}
+use Rattle.std.proofs.Common.{◌≡◌, ℕ, zero, suc, ◌+◌, ◌≤◌, ◌⊎◌, arith}
 use Rattle.grace.proofs.Trips.{Links, Trip, Trip.last, Trip.via, Round, Round.round}
 use Rattle.grace.proofs.Grounds.{Ground, Period, Section, Relay, Relay.fence, Relay.period, Relay.section}
 
@@ -36,18 +37,10 @@ module _ (g : Ground) (f : Links)
   collapse (then l s r) = join l (fences _ _ s) (collapse r)
 
   period_section : {a b c d : ℕ} → Period g a b → Link g f b c → Section g c d → f a d
-  period_section {a} {b} {c} {d} e l k = by (ordered _ _ _ _ _ _ e.1 e.2 k.1 k.2)
-    where
-      by : f c b ⊎ f a d → f a d
-      by (inl u) = absurd (free _ _ u l)
-      by (inr u) = u
+  period_section {a} {b} {c} {d} e l k = grind (arith, nat_tests)
 
   section_period : {a b c d : ℕ} → Section g a b → Link g f b c → Period g c d → f a d
-  section_period {a} {b} {c} {d} e l k = by (ordered _ _ _ _ _ _ k.1 k.2 e.1 e.2)
-    where
-      by : f a d ⊎ f c b → f a d
-      by (inl u) = u
-      by (inr u) = absurd (free _ _ u l)
+  section_period {a} {b} {c} {d} e l k = grind (arith, nat_tests)
 
   left_fence : {m n p q a b c d : ℕ} → g.hop a b → f b c → p ≡ 0 + m → q ≡ 0 + n → Left g f m n c d → Left g f p q a d
   left_fence h e u v (periods {k} m r) = periods {k = k} (omega arith) (absorb h e r)

@@ -1,12 +1,14 @@
 -- The table read off the sheet is the first: a way back over the rows of the locks before it is a trip at its stage.
-use Rattle.std.proofs.Common.{◌≡◌, ℕ, ◌+◌, true, false, not, ◌&&◌, sym, refl, ◌∙◌, subst₂, ⊎_elim, true≢false, arith}
-use Rattle.std.proofs.lemmas.Bool.{and_from, and_parts, cases_Bool, not_from_false}
+use Rattle.std.proofs.lemmas.Bool.Decides.{nat_tests}
+use Rattle.std.proofs.Common.{◌≡◌, ℕ, ◌+◌, true, false, sym, refl, ◌∙◌, subst₂, ⊎_elim, true≢false, arith}
+use Rattle.std.proofs.lemmas.Bool.{and_from, and_parts, cases_Bool}
+use Rattle.rows.proofs.Any.{any_from}
 use Rattle.grace.specs.Scene.{Scene, Sound}
 use Rattle.grace.specs.Law.{Walk.here, pair, before_unlock, from_on}
 use Rattle.grace.specs.ByRow.{rows, Rowwise}
 use Rattle.grace.specs.Sheet.{turns}
 use Rattle.grace.specs.Deciding.{before_period, row, behind, row_sheet, first_table, DecidingLaw}
-use Rattle.grace.proofs.Closure.{On, some_any, union_cases, union_left, union_right}
+use Rattle.grace.proofs.Closure.{On, union_cases, union_left, union_right}
 use Rattle.grace.proofs.Trips.{Trip, Trip.last, Trip.via, extend, trip_mono}
 use Rattle.grace.proofs.Cuts.{Back, Back.back}
 use Rattle.grace.proofs.Grounds.{Relay, Relay.fence, Relay.period, Relay.section, relay_mono}
@@ -30,12 +32,12 @@ module _ (x : Scene) (sound : Sound x) where
 
     stage_relay : (i j a b : ℕ) → Stage x 64 64 l i j a b → Relay (ground x) (Rowed x sound (first_table x) l) i j a b
     unfolding before_period
-    stage_relay i j a b (period s lt e f) = period (s, and_parts (x.po a s) (x.period s) e, f)
+    stage_relay i j a b (period s lt e f) = period (s, and_parts _ _ e, f)
     stage_relay i j a b (section c lt e f) = section (c, e, f)
     stage_relay i j a b (rowed c lt e f) =
         let s = behind_some x sound (row_sheet x c) c b f in
         let k = row_parts x sound (row_sheet x c) c s.0 s.1 in
-        fence (union_right x.strong (rows x (first_table x) l)
+        fence (union_right _ _
         (some_rows x sound (first_table x) l a b c s.0 lt k.0 (first_row c s.0 ∙ s.1) (section_from x sound c s.0 a b e s.2)))
 
     link_over : (a b : ℕ) → Hop x sound a b → Over 0 0 a b
@@ -56,8 +58,8 @@ module _ (x : Scene) (sound : Sound x) where
     some_behind : (c s b : ℕ) → On (pair x) c s → first_table x c s ≡ true → from_on x s b ≡ true → behind x (row_sheet x c) c b ≡ true
     unfolding behind
     some_behind c s b e f o =
-        some_any 64 s (λ s. row x (row_sheet x c) c s && from_on x s b) (pair_small x sound c s e).1
-        (and_from (row x (row_sheet x c) c s) (from_on x s b) (sym (first_row c s) ∙ f) o)
+        any_from 64 s _ (pair_small x sound c s e).1
+        (and_from _ _ (sym (first_row c s) ∙ f) o)
 
     over_fence : {m n p q a b c d : ℕ} → (ground x).hop a b → Rowed x sound (first_table x) l b c → p ≡ 0 + m → q ≡ 0 + n → Trip (Hop x sound) (Stage x 64 64 l) m n c d
         → Trip (Hop x sound) (Stage x 64 64 l) p q a d
@@ -66,7 +68,7 @@ module _ (x : Scene) (sound : Sound x) where
         (λ k. let w = rows_some x sound (first_table x) l b c k in
         let g = section_parts x sound w.0 w.1 b c w.5 in
         via (hop_link x sound x.strong a b h) (rowed w.0 w.2 g.0 (some_behind w.0 w.1 c w.3 w.4 g.1)) t u v)
-        (union_cases x.strong (rows x (first_table x) l) e)
+        (union_cases _ _ e)
 
     over_stage : {p q a b : ℕ} → Over p q a b → Trip (Hop x sound) (Stage x 64 64 l) p q a b
     unfolding before_period
@@ -74,7 +76,7 @@ module _ (x : Scene) (sound : Sound x) where
     over_stage (via h (fence e) t u v) = over_fence h e u v (over_stage t)
     over_stage (via {b = b} h (period e) t u v) =
         via (hop_link x sound x.strong _ _ h)
-        (period e.0 (period_known x sound e.0 e.1.1) (and_from (x.po b e.0) (x.period e.0) e.1.0 e.1.1) e.2) (over_stage t) u v
+        (period e.0 (period_known x sound e.0 e.1.1) (and_from _ _ e.1.0 e.1.1) e.2) (over_stage t) u v
     over_stage (via {b = b} h (section e) t u v) =
         via (hop_link x sound x.strong _ _ h) (section e.0 (section_known x sound e.0 b e.1) e.1 e.2) (over_stage t) u v
 
@@ -94,7 +96,7 @@ module _ (x : Scene) (sound : Sound x) where
 
   row_from : (l s : ℕ) → On (pair x) l s → turns (row_sheet x l) (before_unlock x l) (from_on x s) 0 0 ≡ false → first_table x l s ≡ true
   unfolding first_table row
-  row_from l s e k = and_from (pair x l s) (not (turns (row_sheet x l) (before_unlock x l) (from_on x s) 0 0)) e (not_from_false (turns (row_sheet x l) (before_unlock x l) (from_on x s) 0 0) k)
+  row_from l s e k = grind (arith, nat_tests)
 
   rowwise : Calm x sound 64 64 0 → Rowwise x (first_table x)
   rowwise calm l s e = (

@@ -1,17 +1,18 @@
 -- No cycle of hb and pb together. pb ends in hb*, so it takes up the hb steps after it: a cycle is one of hb, or one of pb.
-use Rattle.std.proofs.Common.{ℕ, sym, subst, ⊎_elim}
+use Rattle.std.proofs.Common.{arith}
+use Rattle.std.proofs.lemmas.Bool.Decides.{nat_tests}
+use Rattle.std.proofs.Common.{ℕ, ⊎_elim}
 use Rattle.relations.specs.Algebra.{Rel, union}
 use Rattle.relations.specs.Chains.{Chain, Chain.one, Chain.step, Acyclic}
+use Rattle.relations.proofs.Closure.{chain_append}
 use Rattle.grace.specs.Scene.{Scene, Sound, pb}
 use Rattle.grace.specs.Joint.{JointOrderLaw}
-use Rattle.grace.proofs.Closure.{On, append, union_cases, star_cases, star_chain}
-use Rattle.grace.proofs.Rules.{Hb, hb_begins, pb_parts, pb_from}
+use Rattle.grace.proofs.Closure.{On, union_cases, star_cases, star_chain}
+use Rattle.grace.proofs.Rules.{Hb, hb_small, pb_parts, pb_from}
 
 module _ (x : Scene) (sound : Sound x) (f : Rel) where
   hb_more : (a : ℕ) {b c : ℕ} → Hb x a b → Chain x.hb b c → Hb x a c
-  hb_more a {b} {c} e h =
-      star_chain x.count x.hb (hb_begins x sound)
-      (⊎_elim (λ s. subst (λ k. Chain x.hb k c) (sym s.0) h) (λ s. append s h) (star_cases x.count x.hb e))
+  hb_more a {b} {c} e h = grind (arith, nat_tests, star_chain, hb_small, chain_append, star_cases)
 
   -- a pb step takes up the hb steps after it
   pb_more : (a : ℕ) {b c : ℕ} → On (pb x f) a b → Chain x.hb b c → On (pb x f) a c
@@ -39,16 +40,11 @@ module _ (x : Scene) (sound : Sound x) (f : Rel) where
   after_pb e (hb_first h p) = only_pb (step (pb_more _ e h) p)
 
   sorted : {a b : ℕ} → Chain (union x.hb (pb x f)) a b → Sorted a b
-  sorted (one e) = ⊎_elim (λ h. only_hb (one h)) (λ p. only_pb (one p)) (union_cases x.hb (pb x f) e)
-  sorted (step e s) = ⊎_elim (λ h. after_hb h (sorted s)) (λ p. after_pb p (sorted s)) (union_cases x.hb (pb x f) e)
+  sorted (one e) = ⊎_elim (λ h. only_hb (one h)) (λ p. only_pb (one p)) (union_cases _ _ e)
+  sorted (step e s) = ⊎_elim (λ h. after_hb h (sorted s)) (λ p. after_pb p (sorted s)) (union_cases _ _ e)
 
   joint : Acyclic x.hb → Acyclic (pb x f) → Acyclic (union x.hb (pb x f))
-  joint hb_kept pb_kept a s = by (sorted s)
-    where
-      by : Sorted a a → ⊥
-      by (only_hb h) = hb_kept a h
-      by (only_pb p) = pb_kept a p
-      by (hb_first {c} h p) = pb_kept c (chain_more p h)
+  joint hb_kept pb_kept a s = grind (arith, nat_tests, sorted, chain_more)
 
 pub joint_order_law : JointOrderLaw
 joint_order_law x sound f hb_kept pb_kept = joint x sound f hb_kept pb_kept

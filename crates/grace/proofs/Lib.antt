@@ -9,7 +9,6 @@ pub mod Precedence
 pub mod Steps
 pub mod Only
 pub mod RowByRow
-pub mod Sizes
 pub mod Short
 pub mod Walks
 pub mod Sheets

@@ -1,6 +1,6 @@
 -- The precedence law.
 use Rattle.std.proofs.Common.{◌≡◌, ℕ, zero, suc, ◌+◌, ◌*◌, ◌/◌, ◌%◌, ◌<◌, Bool, true, false, cond, eqb, ◌⊎◌, refl, subst, inl, inr, ⊎_elim, arith}
-use Rattle.std.proofs.lemmas.Bool.{eq-eqb, ne_eqb, cond-true, cond-false}
+use Rattle.std.proofs.lemmas.Bool.Decides.{nat_tests}
 use Rattle.relations.specs.Algebra.{union}
 use Rattle.relations.specs.Chains.{Acyclic}
 use Rattle.grace.specs.Scene.{Scene, Sound}
@@ -9,7 +9,7 @@ use Rattle.grace.proofs.Closure.{On, union_left, dec_acyclic}
 use Rattle.grace.proofs.Trips.{round_mono}
 use Rattle.grace.proofs.Grounds.{Clear, relay_mono, clear_mono, one_order}
 use Rattle.grace.proofs.Cancel.{no_round}
-use Rattle.grace.proofs.Rules.{ground, period_gp, pb_starts, link_free, kept_clear, clear_kept}
+use Rattle.grace.proofs.Rules.{ground, period_gp, pb_small, link_free, kept_clear, clear_kept}
 use Rattle.grace.proofs.Entries.{Fences, no_fences, all_fences, next_section, next_period, table_orders}
 
 -- ---- a table with one entry changed: the one in place i
@@ -19,11 +19,11 @@ put F i t l s = cond (eqb (l * 64 + s) i) t (F l s)
 
 put_there : (F : Table) (i : ℕ) (t : Bool) → put F i t (i / 64) (i % 64) ≡ t
 unfolding put
-put_there F i t = cond-true _ _ _ (eq-eqb (i / 64 * 64 + i % 64) i (omega arith))
+put_there F i t = grind (arith, nat_tests)
 
 put_before : (F : Table) (i : ℕ) (t : Bool) (l s : ℕ) → l * 64 + s < i → put F i t l s ≡ F l s
 unfolding put
-put_before F i t l s h = cond-false _ _ _ (ne_eqb (l * 64 + s) i (λ e. omega arith))
+put_before F i t l s h = grind (arith, nat_tests)
 
 dec_either : {A B : Type 0} → Dec A → Dec B → Dec (A ⊎ B)
 dec_either (yes a) d = yes (inl a)
@@ -37,7 +37,7 @@ module _ (x : Scene) (sound : Sound x) where
   unfolding enlarged
   obeyed_clear F h =
       no_round (ground x) (On (union x.strong (pairs x F))) (table_orders x sound F)
-      (λ a b e. union_left x.strong (pairs x F) (sound.periods_fence a b (period_gp x sound a b e)))
+      (λ a b e. union_left _ _ (sound.periods_fence a b (period_gp x sound a b e)))
       (link_free x sound (union x.strong (pairs x F)) h)
 
   pub clear_obeyed : (F : Table) → Clear (ground x) (Fences x sound F 4096) → Acyclic (enlarged x F)
@@ -62,7 +62,7 @@ module _ (x : Scene) (sound : Sound x) where
 
   dec_choice : (k i : ℕ) (F : Table) → Dec (Choice k i F)
   unfolding Choice enlarged
-  dec_choice zero i F = dec_acyclic (enlarged x F) (pb_starts x sound (union x.strong (pairs x F)))
+  dec_choice zero i F = dec_acyclic (enlarged x F) (pb_small x sound (union x.strong (pairs x F)))
   dec_choice (suc k) i F = dec_either (dec_choice k (suc i) (put F i true)) (dec_choice k (suc i) (put F i false))
 
   -- at each place one of the two orders stays clear

@@ -1,13 +1,15 @@
 -- The table found lock by lock is the first.
-use Rattle.std.proofs.Common.{◌≡◌, ℕ, zero, suc, ◌+◌, ◌<◌, ◌≤◌, true, false, ◌&&◌, ltb, ◌⊎◌, sym, refl, ◌∙◌, subst, inl, inr, ⊎_elim, true≢false, arith}
-use Rattle.std.proofs.lemmas.Bool.{and_from, and_parts, or_left, lt-ltb, cases_Bool, cases_eq}
-use Rattle.relations.specs.Algebra.{any, union}
+use Rattle.std.proofs.lemmas.Bool.Decides.{nat_tests}
+use Rattle.std.proofs.Common.{◌≡◌, ℕ, zero, suc, ◌+◌, ◌<◌, ◌≤◌, true, false, ◌⊎◌, sym, refl, ◌∙◌, subst, inl, inr, ⊎_elim, true≢false, arith}
+use Rattle.std.proofs.lemmas.Bool.{and_from, or_left, lt-ltb, cases_Bool, cases_eq}
+use Rattle.rows.proofs.Any.{any_some, any_from}
+use Rattle.relations.specs.Algebra.{union}
 use Rattle.relations.specs.Chains.{Acyclic}
 use Rattle.grace.specs.Scene.{Scene, Sound}
 use Rattle.grace.specs.Law.{Kept, Table, pair, section_first, entry, pairs, enlarged}
 use Rattle.grace.specs.First.{sooner, Precedes}
 use Rattle.grace.specs.ByRow.{rows, WayBack, Rowwise, RowLaw}
-use Rattle.grace.proofs.Closure.{On, any_some, some_any, union_cases, union_left, union_right}
+use Rattle.grace.proofs.Closure.{On, union_cases, union_left, union_right}
 use Rattle.grace.proofs.Trips.{Links, Trip, Trip.last, Trip.via, Round.round, extend, trip_mono, round_mono}
 use Rattle.grace.proofs.Cuts.{Back, Back.back}
 use Rattle.grace.proofs.Grounds.{Relay, Relay.fence, Relay.period, Relay.section, Clear, relay_mono, clear_mono, Fenced, fenced_back, back_fenced}
@@ -22,27 +24,17 @@ module _ (x : Scene) (sound : Sound x) (F : Table) where
 
   pub rows_some : (l a b : ℕ) → On (rows x F l) a b → (k : ℕ) × (t : ℕ) × (k < l) × On (pair x) k t × (F k t ≡ true) × On (section_first x k t) a b
   unfolding rows
-  rows_some l a b e =
-      let h = any_some l (λ k. any 64 (λ s. pair x k s && (F k s && section_first x k s a b))) e in
-      let g = any_some 64 (λ s. pair x h.0 s && (F h.0 s && section_first x h.0 s a b)) h.2 in
-      let m = and_parts (pair x h.0 g.0) (F h.0 g.0 && section_first x h.0 g.0 a b) g.2 in
-      let n = and_parts (F h.0 g.0) (section_first x h.0 g.0 a b) m.1 in
-      (h.0, g.0, h.1, m.0, n.0, n.1)
+  rows_some l a b e = grind (arith, nat_tests, any_some)
 
   pub some_rows : (l a b k t : ℕ) → k < l → On (pair x) k t → F k t ≡ true → On (section_first x k t) a b → On (rows x F l) a b
   unfolding rows
   some_rows l a b k t lt e h g =
-      some_any l k (λ k. any 64 (λ s. pair x k s && (F k s && section_first x k s a b))) lt
-      (some_any 64 t (λ s. pair x k s && (F k s && section_first x k s a b)) (pair_small x sound k t e).1
-      (and_from (pair x k t) (F k t && section_first x k t a b) e (and_from (F k t) (section_first x k t a b) h g)))
+      any_from l k _ lt
+      (any_from 64 t _ (pair_small x sound k t e).1
+      (and_from _ _ e (and_from _ _ h g)))
 
   rowed_more : (k l : ℕ) → k ≤ l → (a b : ℕ) → Rowed k a b → Rowed l a b
-  rowed_more k l le a b e =
-      ⊎_elim (union_left x.strong (rows x F l))
-      (λ h. let m = rows_some k a b h in
-      let lt = m.2 in
-      union_right x.strong (rows x F l) (some_rows l a b m.0 m.1 (omega arith) m.3 m.4 m.5))
-      (union_cases x.strong (rows x F k) e)
+  rowed_more k l le a b e = grind (arith, nat_tests, union_left, rows_some, union_right, some_rows, union_cases)
 
   -- ---- ways back
 
@@ -53,9 +45,7 @@ module _ (x : Scene) (sound : Sound x) (F : Table) where
   way_leads l s w = let le = w.enough in back w.starts w.ends (lead_tour x sound _ w.start w.linked w.walked) (omega arith)
 
   pub leads_way : (l s : ℕ) → Leads l s → WayBack x (union x.strong (rows x F l)) l s
-  leads_way l s (back {p} {q} {a} {b} o i t le) =
-      let m = tour_lead x sound (union x.strong (rows x F l)) t in
-      record { start = a; turn = m.0; end = b; periods = p; sections = q; starts = o; linked = m.1; walked = m.2; ends = i; enough = omega arith }
+  leads_way l s (back {p} {q} {a} {b} o i t le) = grind (arith, nat_tests, tour_lead)
 
   module _ (rowwise : Rowwise x F) where
     no_lead : (l s : ℕ) → On (pair x) l s → F l s ≡ true → Leads l s → ⊥
@@ -71,7 +61,7 @@ module _ (x : Scene) (sound : Sound x) (F : Table) where
     Behind l b = (s : ℕ) × On (pair x) l s × (F l s ≡ true) × (ground x).period_out s b
 
     next_row : (l a b : ℕ) → Rowed (suc l) a b → Fenced (Rowed l) ((ground x).section_in l) (Behind l) a b
-    next_row l a b e = ⊎_elim (λ h. inl (union_left x.strong (rows x F l) h)) (λ h. by (rows_some (suc l) a b h)) (union_cases x.strong (rows x F (suc l)) e)
+    next_row l a b e = ⊎_elim (λ h. inl (union_left _ _ h)) (λ h. by (rows_some (suc l) a b h)) (union_cases _ _ e)
       where
         by : (k : ℕ) × (t : ℕ) × (k < suc l) × On (pair x) k t × (F k t ≡ true) × On (section_first x k t) a b
             → Fenced (Rowed l) ((ground x).section_in l) (Behind l) a b
@@ -84,7 +74,7 @@ module _ (x : Scene) (sound : Sound x) (F : Table) where
                 inr (h.0, (m.1, w.0, w.1, h.1))
 
             other : (m.0 ≡ l → ⊥) → Fenced (Rowed l) ((ground x).section_in l) (Behind l) a b
-            other u = let lt = m.2 in inl (union_right x.strong (rows x F l) (some_rows l a b m.0 m.1 (omega arith) m.3 m.4 m.5))
+            other u = let lt = m.2 in inl (union_right _ _ (some_rows l a b m.0 m.1 (omega arith) m.3 m.4 m.5))
 
     clear_row : (l : ℕ) → Clear (ground x) (Rowed l) → Clear (ground x) (Rowed (suc l))
     clear_row l clear t = by (fenced_back (ground x) (Rowed l) ((ground x).section_in l) (Behind l) clear (round_mono (relay_mono (next_row l)) t))
@@ -96,7 +86,7 @@ module _ (x : Scene) (sound : Sound x) (F : Table) where
     clear_rows kept zero = clear_mono none (kept_clear x sound x.strong kept)
       where
         none : (a b : ℕ) → Rowed 0 a b → On x.strong a b
-        none a b e = ⊎_elim (λ h. h) (λ h. let m = rows_some 0 a b h in let lt = m.2 in absurd (omega arith)) (union_cases x.strong (rows x F 0) e)
+        none a b e = ⊎_elim (λ h. h) (λ h. let m = rows_some 0 a b h in let lt = m.2 in absurd (omega arith)) (union_cases _ _ e)
     clear_rows kept (suc l) = clear_row l (clear_rows kept l)
 
     -- ---- period first gains nothing: the period, a way back and the section do as much
@@ -110,7 +100,7 @@ module _ (x : Scene) (sound : Sound x) (F : Table) where
 
     tabled_cases : (a b : ℕ) → Tabled a b → Rowed 64 a b ⊎ Rest a b
     unfolding Rest
-    tabled_cases a b e = ⊎_elim (λ h. inl (union_left x.strong (rows x F 64) h)) (λ h. by (pairs_some x sound F a b h)) (union_cases x.strong (pairs x F) e)
+    tabled_cases a b e = ⊎_elim (λ h. inl (union_left _ _ h)) (λ h. by (pairs_some x sound F a b h)) (union_cases _ _ e)
       where
         by : (l : ℕ) × (s : ℕ) × On (pair x) l s × On (entry x F l s) a b → Rowed 64 a b ⊎ Rest a b
         by m = ⊎_elim first second (cases_Bool (F m.0 m.1))
@@ -120,7 +110,7 @@ module _ (x : Scene) (sound : Sound x) (F : Table) where
 
             first : F m.0 m.1 ≡ true → Rowed 64 a b ⊎ Rest a b
             first t =
-                inl (union_right x.strong (rows x F 64)
+                inl (union_right _ _
                 (some_rows 64 a b m.0 m.1 small.0 m.2 t (entry_section x sound F m.0 m.1 a b t m.3)))
 
             second : F m.0 m.1 ≡ false → Rowed 64 a b ⊎ Rest a b
@@ -169,20 +159,20 @@ module _ (x : Scene) (sound : Sound x) (F : Table) where
 
     sooner_row : (k t l s : ℕ) → k < l → sooner k t l s ≡ true
     unfolding sooner
-    sooner_row k t l s lt = or_left (ltb k l) _ (lt-ltb k l lt)
+    sooner_row k t l s lt = or_left _ _ (lt-ltb _ _ lt)
 
     rows_within : (H : Table) (d : Precedes x H F) (a b : ℕ)
         → Fenced (Rowed d.lock) ((ground x).section_in d.lock) ((ground x).period_out d.period) a b → On (union x.strong (pairs x H)) a b
     rows_within H d a b (inr e) =
-        union_right x.strong (pairs x H)
+        union_right _ _
         (some_pairs x sound H d.lock d.period a b d.is_pair
         (section_entry x sound H d.lock d.period a b d.section_in_F (section_from x sound d.lock d.period a b e.0 e.1)))
     rows_within H d a b (inl e) =
         ⊎_elim (union_left x.strong (pairs x H))
         (λ h. let m = rows_some d.lock a b h in
         let same = d.same_before m.0 m.1 m.3 (sooner_row m.0 m.1 d.lock d.period m.2) in
-        union_right x.strong (pairs x H) (some_pairs x sound H m.0 m.1 a b m.3 (section_entry x sound H m.0 m.1 a b (same ∙ m.4) m.5)))
-        (union_cases x.strong (rows x F d.lock) e)
+        union_right _ _ (some_pairs x sound H m.0 m.1 a b m.3 (section_entry x sound H m.0 m.1 a b (same ∙ m.4) m.5)))
+        (union_cases _ _ e)
 
     none_before : (H : Table) → Precedes x H F → Acyclic (enlarged x H) → ⊥
     none_before H d h =

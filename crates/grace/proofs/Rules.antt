@@ -1,11 +1,15 @@
 -- Pb and Rcu are kept exactly when there is no round.
-use Rattle.std.proofs.Common.{◌≡◌, ℕ, suc, ◌+◌, ◌<◌, ◌≤◌, true, ◌&&◌, ◌⊎◌, sym, refl, subst, subst₂, inl, inr, ⊎_elim, arith}
+use Rattle.std.proofs.lemmas.Bool.Decides.{nat_tests}
+use Rattle.std.proofs.Common.{◌≡◌, ℕ, suc, ◌+◌, ◌<◌, ◌≤◌, true, ◌⊎◌, sym, refl, subst, subst₂, inl, inr, ⊎_elim, arith}
 use Rattle.std.proofs.lemmas.Bool.{and_from, and_parts}
-use Rattle.relations.specs.Algebra.{Rel, seq, to, inverse, opt, star}
+use Rattle.rows.proofs.Any.{any_some, any_from}
+use Rattle.relations.specs.Algebra.{Rel, seq, to, inverse, star}
 use Rattle.relations.specs.Chains.{Chain, Chain.one, Chain.step, Acyclic}
-use Rattle.grace.specs.Scene.{Scene, Sound, gp, rscs, pb, link}
+use Rattle.relations.proofs.Closure.{chain_append, chain_ends}
+use Rattle.relations.proofs.Ranges.{on_more}
+use Rattle.grace.specs.Scene.{Scene, Sound, Within, gp, rscs, pb, link}
 use Rattle.grace.specs.Law.{Walk, Walk.here, Walk.by_period, Walk.by_section, Rcu, Kept, before_unlock, from_on}
-use Rattle.grace.proofs.Closure.{On, any_some, some_any, seq_parts, seq_from, append, Starts, chain_start, star_cases, star_here, star_chain}
+use Rattle.grace.proofs.Closure.{On, seq_parts, seq_from, star_cases, star_here, star_chain, star_within}
 use Rattle.grace.proofs.Trips.{Links, Trip, Trip.last, Trip.via, Round, Round.round}
 use Rattle.grace.proofs.Grounds.{Ground, Period, Section, Relay, Relay.fence, Relay.period, Relay.section, Clear}
 use Rattle.grace.proofs.Cancel.{Link, Link.end, Link.more}
@@ -25,76 +29,67 @@ ground x = record {
 }
 
 module _ (x : Scene) (sound : Sound x) where
-  prop_starts : (a b : ℕ) → On x.prop a b → a < 64
-  prop_starts a b e = let l = sound.prop_within a b e in omega (arith, sound.few, l.0)
+  -- what is on the events of the scene is on the first 64
+  few : {r : Rel} → Within x.count r → Within 64 r
+  few {r} on = on_more x.count 64 r sound.few on
 
-  prop_ends : (a b : ℕ) → On x.prop a b → b < 64
-  prop_ends a b e = let l = sound.prop_within a b e in omega (arith, sound.few, l.1)
+  pub hb_small : Within 64 x.hb
+  hb_small = few sound.hb_within
 
-  pub hb_begins : Starts x.hb
-  hb_begins a b e = let l = sound.hb_within a b e in omega (arith, sound.few, l.0)
-
-  hb_starts : (a b : ℕ) → Hb x a b → a < 64
-  hb_starts a b e = ⊎_elim (λ h. omega (arith, sound.few, h.1)) (chain_start hb_begins) (star_cases x.count x.hb e)
+  hbs_small : Within 64 (star x.count x.hb)
+  hbs_small = few (star_within x.count x.hb sound.hb_within)
 
   -- ---- periods and sections
 
   pub period_known : (s : ℕ) → x.period s ≡ true → s < 64
-  period_known s e = let l = sound.period_within s e in omega (arith, sound.few, l)
+  period_known s e = grind (arith, nat_tests)
 
   pub lock_known : (l u : ℕ) → On x.crit l u → l < 64
-  lock_known l u e = let k = sound.crit_within l u e in omega (arith, sound.few, k.0)
+  lock_known l u e = (few sound.crit_within l u e).0
 
   pub section_known : (l a : ℕ) → before_unlock x l a ≡ true → l < 64
   unfolding before_unlock
-  section_known l a e =
-      let h = any_some 64 (λ u. x.po a u && x.crit l u) e in
-      lock_known l h.0 (and_parts (x.po a h.0) (x.crit l h.0) h.2).1
+  section_known l a e = grind (arith, nat_tests, any_some, lock_known)
 
   pub gp_period : (a b : ℕ) → On (gp x) a b → Period (ground x) a b
   unfolding gp to from_on
-  gp_period a b e =
-      let h = seq_parts (to x.po x.period) (opt x.count x.po) e in
-      (h.0, and_parts (x.po a h.0) (x.period h.0) h.2, h.3)
+  gp_period a b e = grind (arith, nat_tests, seq_parts)
 
   pub period_gp : (a b : ℕ) → Period (ground x) a b → On (gp x) a b
   unfolding gp to from_on
   period_gp a b e =
-      seq_from (to x.po x.period) (opt x.count x.po) (period_known e.0 e.1.1)
-      (and_from (x.po a e.0) (x.period e.0) e.1.0 e.1.1) e.2
+      seq_from _ _ (period_known e.0 e.1.1)
+      (and_from _ _ e.1.0 e.1.1) e.2
 
   pub rscs_section : (a b : ℕ) → On (rscs x) a b → Section (ground x) a b
   unfolding rscs inverse from_on before_unlock
   rscs_section a b e =
-      let h = seq_parts x.po (seq (inverse x.crit) (opt x.count x.po)) e in
-      let k = seq_parts (inverse x.crit) (opt x.count x.po) h.3 in
-      (k.0, some_any 64 h.0 (λ u. x.po a u && x.crit k.0 u) h.1 (and_from (x.po a h.0) (x.crit k.0 h.0) h.2 k.2), k.3)
+      let h = seq_parts _ _ e in
+      let k = seq_parts _ _ h.3 in
+      (k.0, any_from 64 h.0 _ h.1 (and_from _ _ h.2 k.2), k.3)
 
   pub section_rscs : (a b : ℕ) → Section (ground x) a b → On (rscs x) a b
   unfolding rscs inverse from_on before_unlock
   section_rscs a b e =
-      let h = any_some 64 (λ u. x.po a u && x.crit e.0 u) e.1 in
-      let k = and_parts (x.po a h.0) (x.crit e.0 h.0) h.2 in
-      seq_from x.po (seq (inverse x.crit) (opt x.count x.po)) h.1 k.0
-      (seq_from (inverse x.crit) (opt x.count x.po) (lock_known e.0 h.0 k.1) k.1 e.2)
+      let h = any_some 64 _ e.1 in
+      let k = and_parts _ _ h.2 in
+      seq_from _ _ h.1 k.0
+      (seq_from _ _ (lock_known e.0 h.0 k.1) k.1 e.2)
 
   module _ (f : Rel) where
     -- ---- pb and link, part by part
 
     pub pb_parts : (a b : ℕ) → On (pb x f) a b → (c : ℕ) × (d : ℕ) × On x.prop a c × On f c d × Hb x d b
     unfolding pb
-    pb_parts a b e =
-        let h = seq_parts x.prop (seq f (star x.count x.hb)) e in
-        let k = seq_parts f (star x.count x.hb) h.3 in
-        (h.0, k.0, h.2, k.2, k.3)
+    pb_parts a b e = grind (arith, nat_tests, seq_parts)
 
     pub pb_from : (a b c d : ℕ) → On x.prop a c → On f c d → Hb x d b → On (pb x f) a b
     unfolding pb
     pb_from a b c d e h k =
-        seq_from x.prop (seq f (star x.count x.hb)) (prop_ends a c e) e (seq_from f (star x.count x.hb) (hb_starts d b k) h k)
+        seq_from _ _ (few sound.prop_within a c e).1 e (seq_from _ _ (hbs_small d b k).0 h k)
 
-    pub pb_starts : Starts (pb x f)
-    pb_starts a b e = let h = pb_parts a b e in prop_starts a h.0 h.2
+    pub pb_small : Within 64 (pb x f)
+    pb_small a b e = grind (arith, nat_tests, pb_parts, few, hbs_small)
 
     -- link: hb* to c, pb* on to d, prop from there
     data Way : ℕ → ℕ → Type 0 where
@@ -103,12 +98,12 @@ module _ (x : Scene) (sound : Sound x) where
     link_way : (a b : ℕ) → On (link x f) a b → Way a b
     unfolding link
     link_way a b e =
-        let h = seq_parts (star x.count x.hb) (seq (star x.count (pb x f)) x.prop) e in
-        let k = seq_parts (star x.count (pb x f)) x.prop h.3 in
+        let h = seq_parts _ _ e in
+        let k = seq_parts _ _ h.3 in
         way h.2 (⊎_elim (λ m. inl m.0) inr (star_cases x.count (pb x f) k.2)) k.3
 
     way_starts : {a b : ℕ} → Way a b → a < 64
-    way_starts (way h s p) = hb_starts _ _ h
+    way_starts (way h s p) = (hbs_small _ _ h).0
 
     pub link_starts : (a b : ℕ) → On (link x f) a b → a < 64
     link_starts a b e = way_starts (link_way a b e)
@@ -122,14 +117,14 @@ module _ (x : Scene) (sound : Sound x) where
     link_from : (a b c d : ℕ) → Hb x a c → c < 64 → On (star x.count (pb x f)) c d → On x.prop d b → On (link x f) a b
     unfolding link
     link_from a b c d h l s p =
-        seq_from (star x.count x.hb) (seq (star x.count (pb x f)) x.prop) l h
-        (seq_from (star x.count (pb x f)) x.prop (prop_starts d b p) s p)
+        seq_from _ _ l h
+        (seq_from _ _ (few sound.prop_within d b p).0 s p)
 
     way_link : {a b : ℕ} → Way a b → On (link x f) a b
     way_link (way {c} {d} h (inl e) p) =
         let l : c < x.count = subst (λ k. k < x.count) (sym e) (sound.prop_within d _ p).0 in
         link_from _ _ c d h (omega (arith, l, sound.few)) (star_here x.count (pb x f) e l) p
-    way_link (way {c} {d} h (inr s) p) = link_from _ _ c d h (chain_start pb_starts s) (star_chain x.count (pb x f) pb_starts s) p
+    way_link (way {c} {d} h (inr s) p) = link_from _ _ c d h (chain_ends 64 (pb x f) pb_small s).0 (star_chain x.count (pb x f) pb_small s) p
 
     -- ---- from trips to walks
 
@@ -143,8 +138,8 @@ module _ (x : Scene) (sound : Sound x) where
 
     way_join : {a b c d : ℕ} → Way a b → On f b c → Way c d → Way a d
     way_join {a} {b} {c} (way {d = m} h (inl s) p) e w = way_more (m, subst (λ k. Hb x a k) s h, p) e w
-    way_join {b = b} {c} (way {d = m} h (inr s) p) e (way {c = k} g (inl s') p') = way h (inr (append s (one (subst (λ n. On (pb x f) m n) s' (pb_from m k b c p e g))))) p'
-    way_join {b = b} {c} (way {d = m} h (inr s) p) e (way {c = k} g (inr s') p') = way h (inr (append s (step (pb_from m k b c p e g) s'))) p'
+    way_join {b = b} {c} (way {d = m} h (inr s) p) e (way {c = k} g (inl s') p') = way h (inr (chain_append s (one (subst (λ n. On (pb x f) m n) s' (pb_from m k b c p e g))))) p'
+    way_join {b = b} {c} (way {d = m} h (inr s) p) e (way {c = k} g (inr s') p') = way h (inr (chain_append s (step (pb_from m k b c p e g) s'))) p'
 
     pub hop_link : (a b : ℕ) → (ground x).hop a b → On (link x f) a b
     hop_link a b h = way_link (way_hop h)
@@ -165,10 +160,10 @@ module _ (x : Scene) (sound : Sound x) where
         link_way' (more h k l) = way_more h k (link_way' l)
 
     period_step : {a b c : ℕ} → Period (ground x) a b → Way b c → On (seq (gp x) (link x f)) a c
-    period_step e w = seq_from (gp x) (link x f) (way_starts w) (period_gp _ _ e) (way_link w)
+    period_step e w = seq_from _ _ (way_starts w) (period_gp _ _ e) (way_link w)
 
     section_step : (a : ℕ) {b c : ℕ} → Section (ground x) a b → Way b c → On (seq (rscs x) (link x f)) a c
-    section_step a e w = seq_from (rscs x) (link x f) (way_starts w) (section_rscs _ _ e) (way_link w)
+    section_step a e w = seq_from _ _ (way_starts w) (section_rscs _ _ e) (way_link w)
 
     -- a link, then a walk
     data Onward : ℕ → ℕ → ℕ → ℕ → Type 0 where
@@ -198,10 +193,10 @@ module _ (x : Scene) (sound : Sound x) where
 
     -- a step of a walk, part by part
     period_parts : (a c : ℕ) → On (seq (gp x) (link x f)) a c → (b : ℕ) × Period (ground x) a b × Way b c
-    period_parts a c e = let h = seq_parts (gp x) (link x f) e in (h.0, gp_period a h.0 h.2, link_way h.0 c h.3)
+    period_parts a c e = grind (arith, nat_tests, seq_parts, gp_period, link_way)
 
     section_parts : (a c : ℕ) → On (seq (rscs x) (link x f)) a c → (b : ℕ) × Section (ground x) a b × Way b c
-    section_parts a c e = let h = seq_parts (rscs x) (link x f) e in (h.0, rscs_section a h.0 h.2, link_way h.0 c h.3)
+    section_parts a c e = grind (arith, nat_tests, seq_parts, rscs_section, link_way)
 
     -- the last link of a walk takes a fence and a link more
     lengthen : {p q a b c d e : ℕ} → Way a b → Walk x f p q b c → On f c d → Way d e → Onward p q a e
@@ -245,10 +240,7 @@ module _ (x : Scene) (sound : Sound x) where
 
     -- a trip is a link and a walk
     pub tour_lead : {p q a c : ℕ} → Tour p q a c → (b : ℕ) × On (link x f) a b × Walk x f p q b c
-    tour_lead {p} {q} {a} {c} t = by (tour_onward t)
-      where
-        by : Onward p q a c → (b : ℕ) × On (link x f) a b × Walk x f p q b c
-        by (onward w u) = (_, way_link w, u)
+    tour_lead {p} {q} {a} {c} t = grind (arith, nat_tests, tour_onward, way_link)
 
     pub lead_tour : {p q : ℕ} (a : ℕ) {b c : ℕ} → On (link x f) a b → Walk x f p q b c → Tour p q a c
     lead_tour a e t = walk_tour (link_way a _ e) t

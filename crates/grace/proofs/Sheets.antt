@@ -1,55 +1,42 @@
 -- A sheet has the best balances, and goes on having them with each relay that makes no round.
-use Rattle.std.proofs.Common.{◌≡◌, ℕ, zero, suc, ◌+◌, ◌-◌, ◌<◌, ◌≤◌, max, Bool, true, false, cond, ◌&&◌, ◌||◌, eqb, leb, sym, refl, ap, ◌∙◌, subst, inl, inr, ⊎_elim, arith}
-use Rattle.std.proofs.lemmas.Bool.{and_from, and_parts, and_right, or_from, ne_eqb, leb-true, le-leb, lt-leb, cases_Bool, cases_eq, cases_lt, cond-true, cond-false}
+use Rattle.std.proofs.Common.{◌≡◌, ℕ, zero, suc, ◌+◌, ◌-◌, ◌<◌, ◌≤◌, true, false, cond, ◌&&◌, leb, refl, inl, inr, ⊎_elim, arith}
+use Rattle.std.proofs.lemmas.Bool.{and_from, and_parts, leb-true, le-leb, cases_eq, cases_lt}
+use Rattle.std.proofs.lemmas.Bool.Decides.{nat_tests}
+use Rattle.rows.proofs.Any.{any_some, any_from, any_clear}
 use Rattle.relations.specs.Algebra.{Set}
 use Rattle.grace.specs.Sheet.{Sheet, Fits, most, joined, relayed, turns}
-use Rattle.grace.proofs.Closure.{any_some, some_any, none_any}
 use Rattle.grace.proofs.Trips.{Links, Relays, Trip, Trip.last, Trip.via, Round, Round.round, extend, trip_mono}
 use Rattle.grace.proofs.Cuts.{With, Back, Back.back, Split, Split.found, Split.whole, Split.parts, split, way_back}
 use Rattle.grace.proofs.Short.{short_trip}
 
 -- ---- the largest value over a set
 
-most_above : (n k : ℕ) (s : Set) (v : ℕ → ℕ) → k < n → s k ≡ true → v k ≤ most n s v
+pub most_above : (n k : ℕ) (s : Set) (v : ℕ → ℕ) → k < n → s k ≡ true → v k ≤ most n s v
 unfolding most
 most_above zero k s v lt e = absurd (omega arith)
-most_above (suc n) k s v lt e =
-    ⊎_elim
-    (λ h. let u : cond (s n) (v n) 0 ≡ v k = cond-true (s n) (v n) 0 (subst (λ m. s m ≡ true) h e) ∙ ap v (sym h) in omega (arith, u))
-    (λ h. omega (arith, most_above n k s v (omega arith) e)) (cases_eq k n)
+most_above (suc n) k s v lt e = let below : k < n → v k ≤ most n s v = λ l. most_above n k s v l e in grind (arith, nat_tests, cases_eq k n)
 
-most_met : (n : ℕ) (s : Set) (v : ℕ → ℕ) → 1 ≤ most n s v → (k : ℕ) × (k < n) × (s k ≡ true) × (v k ≡ most n s v)
+pub most_met : (n : ℕ) (s : Set) (v : ℕ → ℕ) → 1 ≤ most n s v → (k : ℕ) × (k < n) × (s k ≡ true) × (v k ≡ most n s v)
 unfolding most
 most_met zero s v le = absurd (omega arith)
-most_met (suc n) s v le = ⊎_elim here (λ ge. there ge (most_met n s v (omega arith))) (cases_lt (most n s v) (cond (s n) (v n) 0))
-  where
-    here : most n s v < cond (s n) (v n) 0 → (k : ℕ) × (k < suc n) × (s k ≡ true) × (v k ≡ max (cond (s n) (v n) 0) (most n s v))
-    here lt =
-        ⊎_elim (λ e. let u = cond-true (s n) (v n) 0 e in (n, omega arith, e, omega arith)) (λ e. let u = cond-false (s n) (v n) 0 e in absurd (omega arith))
-        (cases_Bool (s n))
-
-    there : cond (s n) (v n) 0 ≤ most n s v → ((k : ℕ) × (k < n) × (s k ≡ true) × (v k ≡ most n s v))
-        → (k : ℕ) × (k < suc n) × (s k ≡ true) × (v k ≡ max (cond (s n) (v n) 0) (most n s v))
-    there ge m = let lt = m.1 in let u = m.3 in (m.0, omega arith, m.2, omega arith)
+most_met (suc n) s v le =
+    ⊎_elim (λ top. (n, omega arith, grind (arith, nat_tests), grind (arith, nat_tests)))
+    (λ ge. let m = most_met n s v (omega arith) in (m.0, omega (arith, m.1), m.2, omega (arith, m.3)))
+    (cases_lt (most n s v) (cond (s n) (v n) 0))
 
 -- ---- two ways, one after the other
 
 joined_is : (i j u v : ℕ) → 1 ≤ u → 1 ≤ v → joined i j u v ≡ (u + v + i) - (128 + j)
 unfolding joined
-joined_is i j u v a b = cond-false _ _ _ (or_from (eqb u 0) (eqb v 0) (ne_eqb u 0 (λ e. omega arith)) (ne_eqb v 0 (λ e. omega arith)))
+joined_is i j u v a b = grind (arith, nat_tests)
 
 joined_some : (i j u v : ℕ) → 1 ≤ joined i j u v → (1 ≤ u) × (1 ≤ v)
 unfolding joined
-joined_some i j zero v le = absurd (omega (arith, none (eqb v 0)))
-  where
-    none : (t : Bool) → cond (eqb 0 0 || t) 0 ((0 + v + i) - (128 + j)) ≡ 0
-    none t = refl
-joined_some i j (suc u) zero le = absurd (omega (arith, none (eqb (suc u) 0)))
-  where
-    none : (t : Bool) → cond (t || eqb 0 0) 0 ((suc u + 0 + i) - (128 + j)) ≡ 0
-    none true = refl
-    none false = refl
-joined_some i j (suc u) (suc v) le = (omega arith, omega arith)
+joined_some i j u v le = grind (arith, nat_tests)
+
+pub joined_none : (i j u v : ℕ) → u ≡ 0 → joined i j u v ≡ 0
+unfolding joined
+joined_none i j u v e = rw e refl
 
 -- the members of a set
 abbrev pub In : Set → ℕ → Type 0
@@ -98,8 +85,8 @@ module _ (hop : Links) (within : (a b : ℕ) → hop a b → (a < 64) × (b < 64
       back_turns (back {p} {q} {a} {b} o y t le) =
           let k = best.bound p q a b t in
           let u = most_above 64 b into (m a) (trip_ends t) y in
-          some_any 64 a (λ d. out d && leb (128 + j) (most 64 into (m d) + i)) (trip_starts t)
-          (and_from (out a) (leb (128 + j) (most 64 into (m a) + i)) o (le-leb (128 + j) (most 64 into (m a) + i) (omega (arith, k.1))))
+          any_from 64 a _ (trip_starts t)
+          (and_from _ _ o (le-leb _ _ (omega (arith, k.1))))
 
       pub turns_round : turns m into out i j ≡ true → Round hop (With r (In into) (In out) i j)
       turns_round e = by (turns_back e)
@@ -128,7 +115,7 @@ module _ (hop : Links) (within : (a b : ℕ) → hop a b → (a < 64) × (b < 64
       bound_split : {p q a b : ℕ} → (Back hop r (In into) (In out) i j → ⊥) → p + q ≤ 64 → Split hop r (In into) (In out) i j p q a b
           → (1 ≤ relayed m into out i j a b) × (p + 128 ≤ relayed m into out i j a b + q)
       bound_split no_back few (found w) = absurd (no_back w)
-      bound_split {p} {q} {a} {b} no_back few (whole t) = let k = best.bound p q a b t in let o = relayed_old a b in (omega (arith, k.0), omega (arith, k.1))
+      bound_split {p} {q} {a} {b} no_back few (whole t) = grind (arith, nat_tests, relayed_old)
       bound_split {a = a} {b} no_back few (parts {k = k} {m = n} {u} {v} {c} {d} t y z w le) =
           let f = best.bound k n a c t in
           let g = best.bound u v d b w in
@@ -136,7 +123,7 @@ module _ (hop : Links) (within : (a b : ℕ) → hop a b → (a < 64) × (b < 64
           (omega (arith, f.1, g.1), omega (arith, f.1, g.1))
 
       met_old : (a b : ℕ) → 1 ≤ m a b → (p : ℕ) × (q : ℕ) × Trip hop (With r (In into) (In out) i j) p q a b × (m a b + q ≡ p + 128)
-      met_old a b le = let w = best.met a b le in (w.0, w.1, trip_mono (λ i j a b. inl) w.2, w.3)
+      met_old a b le = grind (arith, nat_tests, trip_mono)
 
       met_new : (a b : ℕ) → 1 ≤ joined i j (most 64 into (m a)) (most 64 out (λ d. m d b))
           → (p : ℕ) × (q : ℕ) × Trip hop (With r (In into) (In out) i j) p q a b × (joined i j (most 64 into (m a)) (most 64 out (λ d. m d b)) + q ≡ p + 128)
@@ -176,21 +163,15 @@ module _ (hop : Links) (within : (a b : ℕ) → hop a b → (a < 64) × (b < 64
           no_back (back o y t le) = clear (round (inr (refl, refl, y, o)) (trip_mono (λ i j a b. inl) t) le)
 
 -- a relay that nothing enters changes nothing, and does not turn
-most_none : (n : ℕ) (s : Set) (v : ℕ → ℕ) → ((a : ℕ) → s a ≡ false) → most n s v ≡ 0
+pub most_none : (n : ℕ) (s : Set) (v : ℕ → ℕ) → ((a : ℕ) → s a ≡ false) → most n s v ≡ 0
 unfolding most
 most_none zero s v none = refl
-most_none (suc n) s v none = omega (arith, cond-false {A = ℕ} (s n) (v n) 0 (none n), most_none n s v none)
-
-joined_none : (i j u v : ℕ) → u ≡ 0 → joined i j u v ≡ 0
-joined_none i j u v e = ⊎_elim (λ lt. absurd (omega (arith, (joined_some i j u v lt).0))) (λ le. omega arith) (cases_lt 0 (joined i j u v))
+most_none (suc n) s v none = rw (none n) (omega (arith, most_none n s v none))
 
 pub relayed_idle : (m : Sheet) (into out : Set) (i j : ℕ) → ((a : ℕ) → into a ≡ false) → (a b : ℕ) → relayed m into out i j a b ≡ m a b
 unfolding relayed
-relayed_idle m into out i j none a b =
-    omega (arith, joined_none i j (most 64 into (m a)) (most 64 out (λ d. m d b)) (most_none 64 into (m a) none))
+relayed_idle m into out i j none a b = grind (arith, nat_tests, joined_none, most_none)
 
 pub turns_idle : (m : Sheet) (into out : Set) (i j : ℕ) → i ≤ 1 → ((a : ℕ) → into a ≡ false) → turns m into out i j ≡ false
 unfolding turns
-turns_idle m into out i j small none =
-    none_any 64 (λ d. out d && leb (128 + j) (most 64 into (m d) + i))
-    (λ d lt. and_right (out d) (leb (128 + j) (most 64 into (m d) + i)) (lt-leb (128 + j) (most 64 into (m d) + i) (omega (arith, most_none 64 into (m d) none))))
+turns_idle m into out i j small none = grind (arith, nat_tests, any_clear, most_none)

@@ -1,10 +1,45 @@
 -- Short trips: a trip that takes two relays from one event has a round in it, or is no worse without what lies between. So rounds are
 -- short, and where there is none each trip has a short one that is no worse.
-use Rattle.std.proofs.Common.{◌≡◌, ℕ, ◌+◌, ◌<◌, ◌≤◌, true, false, ◌⊎◌, sym, refl, ◌∙◌, subst, inl, inr, ⊎_elim, true≢false, arith}
+use Rattle.std.proofs.Common.{◌≡◌, ℕ, ◌+◌, ◌<◌, ◌≤◌, true, false, ◌||◌, eqb, ◌⊎◌, sym, refl, ◌∙◌, subst, inl, inr, ⊎_elim, true≢false, arith}
 use Rattle.std.proofs.lemmas.Bool.{cases_Bool, cases_eq, cases_lt}
-use Rattle.relations.specs.Algebra.{Set}
-use Rattle.grace.proofs.Sizes.{size, size_le, none, adding, adding_there, adding_other, adding_old, adding_cases, none_has, size_more}
+use Rattle.std.proofs.lemmas.Bool.Decides.{nat_tests}
+use Rattle.rows.specs.Row.{Set, count}
+use Rattle.rows.proofs.Words.{count_lacks, count_le}
 use Rattle.grace.proofs.Trips.{Links, Relays, Trip, Trip.last, Trip.via, Round, Round.round}
+
+-- ---- sets, and sets with one event more
+
+none : Set
+none a = false
+
+none_has : (a : ℕ) → none a ≡ false
+unfolding none
+none_has a = refl
+
+adding : ℕ → Set → Set
+adding a s b = s b || eqb b a
+
+adding_there : (a : ℕ) (s : Set) → adding a s a ≡ true
+unfolding adding
+adding_there a s = grind (arith, nat_tests)
+
+adding_other : (a : ℕ) (s : Set) (b : ℕ) → (b ≡ a → ⊥) → adding a s b ≡ s b
+unfolding adding
+adding_other a s b apart = grind (arith, nat_tests)
+
+adding_old : (a : ℕ) (s : Set) (b : ℕ) → s b ≡ true → adding a s b ≡ true
+unfolding adding
+adding_old a s b h = grind (arith, nat_tests)
+
+adding_cases : (a : ℕ) (s : Set) (b : ℕ) → adding a s b ≡ true → (s b ≡ true) ⊎ (b ≡ a)
+unfolding adding
+adding_cases a s b h = grind (arith, nat_tests)
+
+-- a new member counts
+more_count : (n a : ℕ) (s : Set) → a < n → s a ≡ false → count n s < count n (adding a s)
+more_count n a s lt fresh = count_lacks n a s (adding a s) (λ b l h. adding_old a s b h) lt fresh (adding_there a s)
+
+-- ---- trips
 
 -- hops end among the first n events, and a relay counts one period, one section or nothing
 module _ (hop : Links) (r : Relays) (n : ℕ) (ends : (a b : ℕ) → hop a b → b < n) (light : (i j a b : ℕ) → r i j a b → i + j ≤ 1) where
@@ -13,9 +48,9 @@ module _ (hop : Links) (r : Relays) (n : ℕ) (ends : (a b : ℕ) → hop a b �
     end : {a b : ℕ} → hop a b → Simple 0 0 a b none
     go : {i j k m p q a b c d : ℕ} {s : Set} → hop a b → s b ≡ false → r i j b c → Simple k m c d s → p ≡ i + k → q ≡ j + m → Simple p q a d (adding b s)
 
-  simple_size : {p q a b : ℕ} {s : Set} → Simple p q a b s → p + q ≤ size n s
+  simple_size : {p q a b : ℕ} {s : Set} → Simple p q a b s → p + q ≤ count n s
   simple_size (end h) = omega arith
-  simple_size (go {b = b} {s = s} h fresh e t u v) = omega (arith, light _ _ _ _ e, simple_size t, size_more n b s (ends _ _ h) fresh)
+  simple_size (go {b = b} {s = s} h fresh e t u v) = omega (arith, light _ _ _ _ e, simple_size t, more_count n b s (ends _ _ h) fresh)
 
   simple_ends : {p q a b : ℕ} {s : Set} → Simple p q a b s → b < n
   simple_ends (end h) = ends _ _ h
@@ -60,7 +95,7 @@ module _ (hop : Links) (r : Relays) (n : ℕ) (ends : (a b : ℕ) → hop a b �
 
   simple_round : {i j p q a b : ℕ} {s : Set} → r i j a b → Simple p q b a s → s a ≡ false → j + q ≤ i + p → Short
   simple_round {a = a} {s = s} e t fresh le =
-      short e (simple_trip t) le (omega (arith, light _ _ _ _ e, simple_size t, size_more n a s (simple_ends t) fresh, size_le n (adding a s)))
+      short e (simple_trip t) le (omega (arith, light _ _ _ _ e, simple_size t, more_count n a s (simple_ends t) fresh, count_le n (adding a s)))
 
   data Cleared : ℕ → ℕ → ℕ → ℕ → Type 0 where
     turned_up : {p q a b : ℕ} → Short → Cleared p q a b
@@ -113,4 +148,4 @@ module _ (hop : Links) (r : Relays) (n : ℕ) (ends : (a b : ℕ) → hop a b �
         where
           no_short : Short → ⊥
           no_short (short e t le few) = clear (round e t le)
-      by (cleared {s = s} t le) = (_, _, simple_trip t, omega (arith, simple_size t, size_le n s), le)
+      by (cleared {s = s} t le) = (_, _, simple_trip t, omega (arith, simple_size t, count_le n s), le)

@@ -1,12 +1,14 @@
 -- The relays of a scene, added one at a time, and the sheets that go with them.
-use Rattle.std.proofs.Common.{◌≡◌, ℕ, zero, suc, ◌+◌, ◌<◌, ◌≤◌, true, false, not, ◌&&◌, sym, refl, ◌∙◌, subst, subst₂, inl, inr, ⊎_elim, true≢false, arith}
-use Rattle.std.proofs.lemmas.Bool.{and_from, and_parts, or_from, or_parts, cases_Bool, cases_eq, cond-true, cond-false, not-true}
-use Rattle.relations.specs.Algebra.{Set, any}
+use Rattle.std.proofs.lemmas.Bool.Decides.{nat_tests}
+use Rattle.std.proofs.Common.{◌≡◌, ℕ, zero, suc, ◌+◌, ◌<◌, ◌≤◌, true, false, sym, refl, ◌∙◌, subst, subst₂, inl, inr, ⊎_elim, true≢false, arith}
+use Rattle.std.proofs.lemmas.Bool.{and_from, and_parts, or_from, or_parts, cases_Bool, cases_eq}
+use Rattle.rows.proofs.Any.{any_some, any_false_at, any_clear}
+use Rattle.relations.specs.Algebra.{Set}
 use Rattle.grace.specs.Scene.{Scene, Sound, link}
 use Rattle.grace.specs.Law.{Rcu, pair, before_unlock, from_on}
 use Rattle.grace.specs.Sheet.{Sheet, Fits, relayed, turns}
 use Rattle.grace.specs.Deciding.{before_period, link_sheet, period_sheet, section_sheet, rounds, row, behind, row_sheet}
-use Rattle.grace.proofs.Closure.{On, any_some, any_none, none_any}
+use Rattle.grace.proofs.Closure.{On}
 use Rattle.grace.proofs.Trips.{Links, Relays, Trip, Trip.last, Trip.via, Round, Round.round, Among, trip_mono, round_mono}
 use Rattle.grace.proofs.Cuts.{With, Back, Back.back, way_back}
 use Rattle.grace.proofs.Sheets.{In, Best, turns_round, round_turns, back_turns, best_fits, best_relayed}
@@ -41,7 +43,7 @@ module _ (x : Scene) (sound : Sound x) where
   Hop = On (link x x.strong)
 
   pub hop_within : (a b : ℕ) → Hop a b → (a < 64) × (b < 64)
-  hop_within a b h = let l = link_ends x sound x.strong a b h in (link_starts x sound x.strong a b h, omega (arith, sound.few, l))
+  hop_within a b h = grind (arith, nat_tests, link_ends, link_starts)
 
   -- no round at a stage
   abbrev pub Calm : ℕ → ℕ → ℕ → Type 0
@@ -71,7 +73,7 @@ module _ (x : Scene) (sound : Sound x) where
   add_period k i j a b (rowed s lt e f) = absurd (omega arith)
 
   take_period : (k : ℕ) → Among (With (Stage x k 0 0) (In (before_period x k)) (In (from_on x k)) 1 0) (Stage x (suc k) 0 0)
-  take_period k i j a b (inl e) = stage_mono x k 0 0 (suc k) 0 0 (omega arith) (omega arith) (omega arith) i j a b e
+  take_period k i j a b (inl e) = grind (arith, nat_tests, stage_mono)
   take_period k i j a b (inr e) = subst₂ (λ i j. Stage x (suc k) 0 0 i j a b) (sym e.0) (sym e.1) (period k (omega arith) e.2 e.3)
 
   add_section : (l : ℕ) → Among (Stage x 64 (suc l) 0) (With (Stage x 64 l 0) (In (before_unlock x l)) (In (from_on x l)) 0 1)
@@ -81,7 +83,7 @@ module _ (x : Scene) (sound : Sound x) where
   add_section l i j a b (rowed s lt e f) = absurd (omega arith)
 
   take_section : (l : ℕ) → Among (With (Stage x 64 l 0) (In (before_unlock x l)) (In (from_on x l)) 0 1) (Stage x 64 (suc l) 0)
-  take_section l i j a b (inl e) = stage_mono x 64 l 0 64 (suc l) 0 (omega arith) (omega arith) (omega arith) i j a b e
+  take_section l i j a b (inl e) = grind (arith, nat_tests, stage_mono)
   take_section l i j a b (inr e) = subst₂ (λ i j. Stage x 64 (suc l) 0 i j a b) (sym e.0) (sym e.1) (section l (omega arith) e.2 e.3)
 
   add_row : (t : ℕ) → Among (Stage x 64 64 (suc t)) (With (Stage x 64 64 t) (In (before_unlock x t)) (In (behind x (row_sheet x t) t)) 0 0)
@@ -92,18 +94,18 @@ module _ (x : Scene) (sound : Sound x) where
       (cases_eq s t)
 
   take_row : (t : ℕ) → Among (With (Stage x 64 64 t) (In (before_unlock x t)) (In (behind x (row_sheet x t) t)) 0 0) (Stage x 64 64 (suc t))
-  take_row t i j a b (inl e) = stage_mono x 64 64 t 64 64 (suc t) (omega arith) (omega arith) (omega arith) i j a b e
+  take_row t i j a b (inl e) = grind (arith, nat_tests, stage_mono)
   take_row t i j a b (inr e) = subst₂ (λ i j. Stage x 64 64 (suc t) i j a b) (sym e.0) (sym e.1) (rowed t (omega arith) e.2 e.3)
 
   -- ---- calm stages have the best balances, and nothing turns
 
   linked : (a b : ℕ) → Hop a b → link_sheet x a b ≡ 128
   unfolding link_sheet
-  linked a b e = cond-true {A = ℕ} (link x x.strong a b) 128 0 e
+  linked a b e = grind (arith, nat_tests)
 
   not_linked : (a b : ℕ) → link x x.strong a b ≡ false → link_sheet x a b ≡ 0
   unfolding link_sheet
-  not_linked a b e = cond-false {A = ℕ} (link x x.strong a b) 128 0 e
+  not_linked a b e = grind (arith, nat_tests)
 
   link_only : {p q a b : ℕ} → Trip Hop (Stage x 0 0 0) p q a b → (1 ≤ link_sheet x a b) × (p + 128 ≤ link_sheet x a b + q)
   link_only {a = a} {b} (last h) = let e = linked a b h in (omega arith, omega arith)
@@ -161,7 +163,7 @@ module _ (x : Scene) (sound : Sound x) where
   -- all periods and sections are the nodes of walks
   stage_node : Among (Stage x 64 64 0) (Node x)
   unfolding before_period
-  stage_node i j a b (period s lt e f) = up (period_gp x sound a b (s, and_parts (x.po a s) (x.period s) e, f))
+  stage_node i j a b (period s lt e f) = up (period_gp x sound a b (s, and_parts _ _ e, f))
   stage_node i j a b (section c lt e f) = down (section_rscs x sound a b (c, e, f))
   stage_node i j a b (rowed c lt e f) = absurd (omega arith)
 
@@ -169,7 +171,7 @@ module _ (x : Scene) (sound : Sound x) where
   unfolding before_period
   node_stage i j a b (up e) =
       let m = gp_period x sound a b e in
-      period m.0 (period_known x sound m.0 m.1.1) (and_from (x.po a m.0) (x.period m.0) m.1.0 m.1.1) m.2
+      period m.0 (period_known x sound m.0 m.1.1) (and_from _ _ m.1.0 m.1.1) m.2
   node_stage i j a b (down e) = let m = rscs_section x sound a b e in section m.0 (section_known x sound m.0 a m.1) m.1 m.2
 
   calm_kept : Calm 64 64 0 → Rcu x x.strong
@@ -209,30 +211,27 @@ module _ (x : Scene) (sound : Sound x) where
   pub rounds_none : rounds x ≡ false → Rcu x x.strong
   unfolding rounds
   rounds_none e =
-      let h = or_parts (any 64 (λ s. turns (period_sheet x s) (before_period x s) (from_on x s) 1 0)) _ e in
+      let h = or_parts _ _ e in
       calm_kept
-      (calm_sections (calm_periods 64 (any_none 64 (λ s. turns (period_sheet x s) (before_period x s) (from_on x s) 1 0) h.0)) 64
-      (any_none 64 (λ l. turns (section_sheet x l) (before_unlock x l) (from_on x l) 0 1) h.1))
+      (calm_sections (calm_periods 64 (any_false_at 64 _ h.0)) 64
+      (any_false_at 64 _ h.1))
 
   pub none_rounds : Rcu x x.strong → rounds x ≡ false
   unfolding rounds
   none_rounds rcu =
-      or_from (any 64 (λ s. turns (period_sheet x s) (before_period x s) (from_on x s) 1 0)) _
-      (none_any 64 (λ s. turns (period_sheet x s) (before_period x s) (from_on x s) 1 0) (period_still (kept_calm rcu)))
-      (none_any 64 (λ l. turns (section_sheet x l) (before_unlock x l) (from_on x l) 0 1) (section_still (kept_calm rcu)))
+      or_from _ _
+      (any_clear _ 64 (period_still (kept_calm rcu)))
+      (any_clear _ 64 (section_still (kept_calm rcu)))
 
   -- ---- the rows
 
   pub behind_some : (m : Sheet) (l b : ℕ) → behind x m l b ≡ true → (s : ℕ) × (row x m l s ≡ true) × (from_on x s b ≡ true)
   unfolding behind
-  behind_some m l b e =
-      let h = any_some 64 (λ s. row x m l s && from_on x s b) e in
-      let k = and_parts (row x m l h.0) (from_on x h.0 b) h.2 in
-      (h.0, k.0, k.1)
+  behind_some m l b e = grind (arith, nat_tests, any_some)
 
   pub row_parts : (m : Sheet) (l s : ℕ) → row x m l s ≡ true → On (pair x) l s × (turns m (before_unlock x l) (from_on x s) 0 0 ≡ false)
   unfolding row
-  row_parts m l s e = let h = and_parts (pair x l s) (not (turns m (before_unlock x l) (from_on x s) 0 0)) e in (h.0, not-true (turns m (before_unlock x l) (from_on x s) 0 0) h.1)
+  row_parts m l s e = grind (arith, nat_tests)
 
   pub calm_rows : Calm 64 64 0 → (t : ℕ) → Calm 64 64 t
   calm_rows calm zero = calm

@@ -1,6 +1,7 @@
 -- Trips: hops and relays in turn. A relay leads from one event to another and counts some periods and some sections; a trip has
 -- the sums. A round is a closed trip with at least as many periods as sections.
-use Rattle.std.proofs.Common.{◌≡◌, ℕ, zero, ◌+◌, ◌≤◌, subst₂, arith}
+use Rattle.std.proofs.lemmas.Bool.Decides.{nat_tests}
+use Rattle.std.proofs.Common.{◌≡◌, ℕ, zero, ◌+◌, ◌≤◌, arith}
 
 -- a relation between events
 abbrev pub Links : Type 1
@@ -21,7 +22,7 @@ pub data Round (hop : Links) (r : Relays) : Type 0 where
 
 -- a trip goes on where its last hop can
 pub extend : {hop : Links} {r : Relays} {p q i j a b c : ℕ} → Trip hop r p q a b → ((v : ℕ) → hop v b → Trip hop r i j v c) → Trip hop r (p + i) (q + j) a c
-extend {hop} {r} {a = a} {c = c} (last h) k = subst₂ (λ p q. Trip hop r p q a c) (omega arith) (omega arith) (k a h)
+extend {hop} {r} {a = a} {c = c} (last h) k = grind (arith, nat_tests)
 extend (via h e t u v) k = via h e (extend t k) (omega arith) (omega arith)
 
 -- more relays, more trips

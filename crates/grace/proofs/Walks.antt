@@ -26,17 +26,17 @@ module _ (x : Scene) (sound : Sound x) (f : Rel) where
   -- a link and a walk are a trip
   pub lead_trip : {p q a b c : ℕ} → On (link x f) a b → Walk x f p q b c → Trip (On (link x f)) (Node x) p q a c
   lead_trip h here = last h
-  lead_trip h (by_period s t) = let m = seq_parts (gp x) (link x f) s in via h (up m.2) (lead_trip m.3 t) (omega arith) (omega arith)
-  lead_trip h (by_section s t) = let m = seq_parts (rscs x) (link x f) s in via h (down m.2) (lead_trip m.3 t) (omega arith) (omega arith)
+  lead_trip h (by_period s t) = let m = seq_parts _ _ s in via h (up m.2) (lead_trip m.3 t) (omega arith) (omega arith)
+  lead_trip h (by_section s t) = let m = seq_parts _ _ s in via h (down m.2) (lead_trip m.3 t) (omega arith) (omega arith)
 
   pub data Lead : ℕ → ℕ → ℕ → ℕ → Type 0 where
     lead : {p q a b c : ℕ} → On (link x f) a b → Walk x f p q b c → Lead p q a c
 
   node_walk : {i j k m p q a b c : ℕ} → Node x i j a b → p ≡ i + k → q ≡ j + m → Lead k m b c → Walk x f p q a c
   node_walk {a = a} {c = c} (up e) u v (lead h t) =
-      subst₂ (λ p q. Walk x f p q a c) (omega arith) (omega arith) (by_period (seq_from (gp x) (link x f) (link_starts x sound f _ _ h) e h) t)
+      subst₂ (λ p q. Walk x f p q a c) (omega arith) (omega arith) (by_period (seq_from _ _ (link_starts x sound f _ _ h) e h) t)
   node_walk {a = a} {c = c} (down e) u v (lead h t) =
-      subst₂ (λ p q. Walk x f p q a c) (omega arith) (omega arith) (by_section (seq_from (rscs x) (link x f) (link_starts x sound f _ _ h) e h) t)
+      subst₂ (λ p q. Walk x f p q a c) (omega arith) (omega arith) (by_section (seq_from _ _ (link_starts x sound f _ _ h) e h) t)
 
   pub trip_lead : {p q a b : ℕ} → Trip (On (link x f)) (Node x) p q a b → Lead p q a b
   trip_lead (last h) = lead h here
@@ -45,9 +45,9 @@ module _ (x : Scene) (sound : Sound x) (f : Rel) where
   walk_round : {p q a b : ℕ} → Walk x f p q a b → b ≡ a → 1 ≤ p + q → q ≤ p → Round (On (link x f)) (Node x)
   walk_round here e some le = absurd (omega arith)
   walk_round (by_period {p} {q} {b = b} s t) e some le =
-      let m = seq_parts (gp x) (link x f) s in round (up m.2) (lead_trip m.3 (subst (λ c. Walk x f p q b c) e t)) (omega arith)
+      let m = seq_parts _ _ s in round (up m.2) (lead_trip m.3 (subst (λ c. Walk x f p q b c) e t)) (omega arith)
   walk_round (by_section {p} {q} {b = b} s t) e some le =
-      let m = seq_parts (rscs x) (link x f) s in round (down m.2) (lead_trip m.3 (subst (λ c. Walk x f p q b c) e t)) (omega arith)
+      let m = seq_parts _ _ s in round (down m.2) (lead_trip m.3 (subst (λ c. Walk x f p q b c) e t)) (omega arith)
 
   short_walk : Short (On (link x f)) (Node x) x.count (link_ends x sound f) (node_light x) → (r : RcuRound x f) × (r.periods + r.sections ≤ x.count)
   short_walk (short {i} {j} {p} {q} {a} e t le few) =

@@ -1,15 +1,17 @@
 -- The rules, decided on the rows of an execution.
-use Rattle.std.proofs.Common.{◌≡◌, ℕ, ◌≤◌, Bool, true, false, List, [], ◌∷◌, get_or, refl, subst, arith}
-use Rattle.std.proofs.lemmas.Bool.{and_parts, both_ways}
+use Rattle.std.proofs.lemmas.Bool.Decides.{nat_tests}
+use Rattle.std.proofs.Common.{◌≡◌, ℕ, ◌≤◌, Bool, true, false, List, [], ◌∷◌, get_or, refl, arith}
+use Rattle.std.proofs.lemmas.Bool.{both_ways}
 use Rattle.rows.specs.Row.{any}
-use Rattle.relations.specs.Algebra.{Rel, to, opt}
+use Rattle.rows.proofs.Any.{any_false_at}
+use Rattle.relations.specs.Algebra.{Rel, to}
 use Rattle.executions.specs.declared.sorts.Sort.TheVariants.{SyncRcu}
 use Rattle.executions.specs.Execution.{Execution, count}
 use Rattle.basis.specs.Meaning.{basis, of_sort}
-use Rattle.grace.specs.Scene.{Scene, gp, link}
+use Rattle.grace.specs.Scene.{Scene, gp}
 use Rattle.grace.specs.Law.{Walk, here, by_period, by_section}
 use Rattle.grace.specs.Law as grace
-use Rattle.grace.proofs.Closure.{any_none, seq_parts}
+use Rattle.grace.proofs.Closure.{seq_parts}
 use Rattle.wellformed.specs.WellFormed.{WellFormed}
 use Rattle.lkmm.specs.Rules.{Rcu, scene}
 use Rattle.worked.specs.Worked.{Report, kept, Says, Reported}
@@ -22,13 +24,11 @@ use Rattle.worked.proofs.Tests.{verdict, loops, some_pair, emptiness, acyclicity
 module _ (x : Scene) (f : Rel) (none : (s : ℕ) → x.period s ≡ true → ⊥) where
   no_gp : (a b : ℕ) → gp x a b ≡ true → ⊥
   unfolding gp to
-  no_gp a b h =
-      let p = seq_parts (to x.po x.period) (opt x.count x.po) h in
-      none p.0 (and_parts (x.po a p.0) (x.period p.0) p.2).1
+  no_gp a b h = grind (arith, nat_tests, seq_parts)
 
   no_periods : {p q a b : ℕ} → Walk x f p q a b → p ≡ 0
   no_periods here = refl
-  no_periods (by_period {a = a} e w) = let p = seq_parts (gp x) (link x f) e in absurd (no_gp a p.0 p.2)
+  no_periods (by_period {a = a} e w) = let p = seq_parts _ _ e in absurd (no_gp a p.0 p.2)
   no_periods (by_section e w) = no_periods w
 
   periodless : grace.Rcu x f
@@ -41,7 +41,7 @@ synced x = any (count x) (of_sort SyncRcu x)
 pub unsynced_rcu : (x : Execution) → synced x ≡ false → Rcu (basis x)
 unfolding scene basis synced
 unsynced_rcu x e = periodless (scene (basis x)) (scene (basis x)).strong
-    (λ s h. both_ways (of_sort SyncRcu x s) (any_none (count x) (of_sort SyncRcu x) e s (sort_inside x SyncRcu s h)) h)
+    (λ s h. both_ways _ (any_false_at (count x) _ e s (sort_inside x SyncRcu s h)) h)
 
 -- ---- the other four
 
@@ -67,8 +67,7 @@ decided x few formed r =
 -- what they are is computed
 pub ruled : (x : Execution) → WellFormed x → {rcu : Report} → Says rcu (Rcu (basis x)) → {scpv at hb pb : Report}
     → verdicts x ≡ scpv ∷ at ∷ hb ∷ pb ∷ [] → Reported x scpv at hb pb rcu
-ruled x formed {rcu} r e =
-    subst (λ (v : List Report). Reported x (get_or v 0 kept) (get_or v 1 kept) (get_or v 2 kept) (get_or v 3 kept) rcu) e (decided x formed.few formed r)
+ruled x formed {rcu} r e = grind (arith, nat_tests, decided)
 
 -- without periods
 pub ruled_unsynced : (x : Execution) → WellFormed x → synced x ≡ false → {scpv at hb pb : Report}

@@ -1,4 +1,5 @@
 -- The worked examples are well formed: the check, computed, finds no fault.
+use Rattle.std.proofs.lemmas.Bool.Decides.{nat_tests}
 use Rattle.std.proofs.Common.{◌≡◌, None, refl, arith}
 use Rattle.rows.specs.Row.{any, count}
 use Rattle.relations.specs.Table.{via}
@@ -23,17 +24,7 @@ record Faultless : Type 0 where
 
 faultless : Faultless
 unfolding row_fault fault_by orders_by first any count depth last_lock closing via values tab look listed blank own_later_write lb_ctrl_mb mp_wmb_rmb sb_mbs rcu_mp rcu_mp_new rcu_mp_old split_rmw
-faultless = record {
-  blank_faultless = refl;
-  own_later_write_faultless = refl;
-  lb_ctrl_mb_faultless = refl;
-  mp_wmb_rmb_faultless = refl;
-  sb_mbs_faultless = refl;
-  rcu_mp_faultless = refl;
-  rcu_mp_new_faultless = refl;
-  rcu_mp_old_faultless = refl;
-  split_rmw_faultless = refl;
-}
+faultless = grind (arith, nat_tests)
 
 pub record AllFormed : Type 0 where
   pub blank_formed : WellFormed blank

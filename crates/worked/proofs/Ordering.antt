@@ -1,23 +1,24 @@
 -- An execution with one section and one period: a table says one thing.
-use Rattle.std.proofs.Common.{◌≡◌, ℕ, ◌<◌, ◌≤◌, Bool, true, false, cond, not, ◌&&◌, ◌||◌, eqb, ltb, sym, refl, ap, ◌∙◌, subst, ⊎_elim, arith}
+use Rattle.std.proofs.lemmas.Bool.Decides.{nat_tests}
+use Rattle.std.proofs.Common.{◌≡◌, ℕ, ◌<◌, ◌≤◌, Bool, true, false, not, ◌&&◌, ◌||◌, eqb, sym, refl, subst, ⊎_elim, arith}
 use mathlib.Core.Path.{fun_ext}
-use Rattle.std.proofs.lemmas.Bool.{and_parts, and_from, or_cases, or_parts, cases_Bool, both_ways, eqb-true, ltb-true, not_from_false}
-use Rattle.rows.proofs.Any.{any_some, any_from}
-use Rattle.relations.specs.Algebra.{Rel, any, union}
+use Rattle.std.proofs.lemmas.Bool.{and_parts, and_from, or_parts, cases_Bool}
+use Rattle.rows.proofs.Any.{any_some, any_from, any_false_at}
+use Rattle.relations.specs.Algebra.{any, union}
 use Rattle.relations.specs.Chains.{Acyclic}
 use Rattle.relations.proofs.Tables.{both_same}
 use Rattle.executions.specs.declared.sorts.Sort.TheVariants.{SyncRcu}
 use Rattle.executions.specs.Execution.{Execution, count}
 use Rattle.basis.specs.Meaning.{basis, of_sort}
 use Rattle.basis.specs.Sections.{crit}
-use Rattle.lkmm.specs.Model.{mb, gp, strong_fence}
+use Rattle.lkmm.specs.Model.{gp, strong_fence}
 use Rattle.lkmm.specs.Rules.{Rcu, scene}
 use Rattle.grace.specs.Scene.{Scene, Sound, pb}
 use Rattle.grace.specs.Scene as Scenes
 use Rattle.grace.specs.Law.{Kept, Table, pair, section_first, period_first, entry, pairs, enlarged}
 use Rattle.grace.specs.First.{sooner, First}
 use Rattle.grace.specs.Deciding.{first_table}
-use Rattle.grace.proofs.Closure.{any_none, union_right}
+use Rattle.grace.proofs.Closure.{union_right}
 use Rattle.grace.proofs.Precedence.{precedence_law}
 use Rattle.grace.proofs.Deciding.{deciding_law}
 use Rattle.worked.specs.Worked.{PutsFirst}
@@ -31,33 +32,29 @@ module _ (x : Scene) (lock period : ℕ) (lock_small : lock < 64) (period_small 
   -- the pairs of a table are those of its one entry
   pairs_one : (F : Table) → pairs x F ≡ entry x F lock period
   unfolding pairs
-  pairs_one F = fun_ext λ a. fun_ext λ b. both_same (pairs x F a b) (entry x F lock period a b) (there a b) (back a b)
+  pairs_one F = fun_ext λ a. fun_ext λ b. both_same _ _ (there a b) (back a b)
     where
       there : (a b : ℕ) → any 64 (λ l. any 64 (λ s. pair x l s && entry x F l s a b)) ≡ true → entry x F lock period a b ≡ true
       there a b h =
-          let l = any_some 64 (λ l. any 64 (λ s. pair x l s && entry x F l s a b)) h in
-          let s = any_some 64 (λ s. pair x l.0 s && entry x F l.0 s a b) l.2 in
-          let p = and_parts (pair x l.0 s.0) (entry x F l.0 s.0 a b) s.2 in
+          let l = any_some 64 _ h in
+          let s = any_some 64 _ l.2 in
+          let p = and_parts _ _ s.2 in
           let q = only l.0 s.0 p.0 in
           subst (λ (k : ℕ). entry x F k period a b ≡ true) q.0 (subst (λ (t : ℕ). entry x F l.0 t a b ≡ true) q.1 p.1)
 
       back : (a b : ℕ) → entry x F lock period a b ≡ true → any 64 (λ l. any 64 (λ s. pair x l s && entry x F l s a b)) ≡ true
       back a b h =
-          any_from 64 lock (λ l. any 64 (λ s. pair x l s && entry x F l s a b)) lock_small
-          (any_from 64 period (λ s. pair x lock s && entry x F lock s a b) period_small (and_from (pair x lock period) _ one h))
+          any_from 64 lock _ lock_small
+          (any_from 64 period _ period_small (and_from _ _ one h))
 
   -- so enlarged pb is one of two relations
   pub enlarged_section : (F : Table) → F lock period ≡ true → enlarged x F ≡ pb x (union x.strong (section_first x lock period))
   unfolding enlarged entry
-  enlarged_section F e =
-      ap (λ (r : Rel). pb x (union x.strong r))
-      (pairs_one F ∙ ap (λ (v : Bool). cond v (section_first x lock period) (period_first x lock period)) e)
+  enlarged_section F e = grind (arith, nat_tests, pairs_one)
 
   pub enlarged_period : (F : Table) → F lock period ≡ false → enlarged x F ≡ pb x (union x.strong (period_first x lock period))
   unfolding enlarged entry
-  enlarged_period F e =
-      ap (λ (r : Rel). pb x (union x.strong r))
-      (pairs_one F ∙ ap (λ (v : Bool). cond v (section_first x lock period) (period_first x lock period)) e)
+  enlarged_period F e = grind (arith, nat_tests, pairs_one)
 
 -- ---- the scene of an execution
 
@@ -71,7 +68,7 @@ sound x few =
       hb_within = m.hb_rows.within;
       crit_within = on_crit x;
       period_within = sort_inside x SyncRcu;
-      periods_fence = λ a b e. union_right (mb (basis x)) (gp (basis x)) e;
+      periods_fence = λ a b e. union_right _ _ e;
     }
 
 -- some other lock has a section, or there is some other period
@@ -81,18 +78,18 @@ others x lock period =
 
 -- a test that holds of an event that may not be another is of that event
 that_one : (t : Bool) (a b : ℕ) → (t && not (eqb a b)) ≡ false → t ≡ true → a ≡ b
-that_one t a b e h = ⊎_elim (λ k. eqb-true a b k) (λ k. absurd (both_ways _ e (and_from t (not (eqb a b)) h (not_from_false (eqb a b) k)))) (cases_Bool (eqb a b))
+that_one t a b e h = grind (arith, nat_tests)
 
 pub alone : (x : Execution) (lock period : ℕ) → others x lock period ≡ false → (l s : ℕ) → pair (scene (basis x)) l s ≡ true → (l ≡ lock) × (s ≡ period)
 unfolding others pair scene basis
 alone x lock period e l s h =
     let n : ℕ = count x in
-    let o = or_parts (any n (λ l. any n (λ u. crit x l u && not (eqb l lock)))) (any n (λ s. of_sort SyncRcu x s && not (eqb s period))) e in
-    let p = and_parts (any 64 (crit x l)) (of_sort SyncRcu x s) h in
-    let u = any_some 64 (crit x l) p.0 in
+    let o = or_parts _ _ e in
+    let p = and_parts _ _ h in
+    let u = any_some 64 _ p.0 in
     let i = on_crit x l u.0 u.2 in (
-      that_one (crit x l u.0) l lock (any_none n (λ u. crit x l u && not (eqb l lock)) (any_none n (λ l. any n (λ u. crit x l u && not (eqb l lock))) o.0 l i.0) u.0 i.1) u.2,
-      that_one (of_sort SyncRcu x s) s period (any_none n (λ s. of_sort SyncRcu x s && not (eqb s period)) o.1 s (sort_inside x SyncRcu s p.1)) p.1,
+      that_one (crit x l u.0) l lock (any_false_at n _ (any_false_at n _ o.0 l i.0) u.0 i.1) u.2,
+      that_one (of_sort SyncRcu x s) s period (any_false_at n _ o.1 s (sort_inside x SyncRcu s p.1)) p.1,
     )
 
 -- ---- which goes first
@@ -105,7 +102,7 @@ all_periods l s = false
 
 not_sooner : (l s : ℕ) → sooner l s l s ≡ true → ⊥
 unfolding sooner
-not_sooner l s h = ⊎_elim (λ e. omega (arith, ltb-true l l e)) (λ e. omega (arith, ltb-true s s (and_parts (eqb l l) (ltb s s) e).1)) (or_cases (ltb l l) (eqb l l && ltb s s) h)
+not_sooner l s h = grind (arith, nat_tests)
 
 module _ (x : Execution) (few : count x ≤ 64) (lock period : ℕ) (lock_small : lock < 64) (period_small : period < 64)
     (one : pair (scene (basis x)) lock period ≡ true) (alone_there : others x lock period ≡ false) where

@@ -1,5 +1,6 @@
 -- Expressions of the relation algebra, evaluated on rows. A list of expressions is evaluated one after another, each over the results
 -- before it, so that nothing is computed twice.
+use Rattle.std.proofs.lemmas.Bool.Decides.{nat_tests}
 use Rattle.std.proofs.Common.{◌≡◌, ℕ, zero, suc, ◌≤◌, true, ◌&&◌, List, [], ◌∷◌, ◌++◌, map, get_or, refl, ap, ◌∙◌, ap₂, add-one, arith}
 use mathlib.Core.Path.{fun_ext}
 use Rattle.std.proofs.lemmas.Bool.{and_parts}
@@ -81,23 +82,20 @@ tabbed n q r e on = record { same = tab_is n q (on_at n q r e on) ∙ e; within 
 module _ (n : ℕ) (r s : Rel) where
   on_then : On n r → On n s → On n (seq r s)
   unfolding seq
-  on_then f g a b h =
-      let e = any_some 64 (λ c. r a c && s c b) h in
-      let p = and_parts (r a e.0) (s e.0 b) e.2 in
-      ((f a e.0 p.0).0, (g e.0 b p.1).1)
+  on_then f g a b h = grind (arith, nat_tests, any_some)
 
   meet_is : n ≤ 64 → On n r → meet n r s ≡ seq r s
   unfolding meet seq
-  meet_is few on = fun_ext λ a. fun_ext λ b. both_same (meet n r s a b) (seq r s a b) (there a b) (back a b)
+  meet_is few on = fun_ext λ a. fun_ext λ b. both_same _ _ (there a b) (back a b)
     where
       there : (a b : ℕ) → any n (λ c. r a c && s c b) ≡ true → any 64 (λ c. r a c && s c b) ≡ true
-      there a b h = let e = any_some n (λ c. r a c && s c b) h in any_from 64 e.0 (λ c. r a c && s c b) (omega (arith, e.1)) e.2
+      there a b h = let e = any_some n _ h in any_from 64 e.0 _ (omega (arith, e.1)) e.2
 
       back : (a b : ℕ) → any 64 (λ c. r a c && s c b) ≡ true → any n (λ c. r a c && s c b) ≡ true
       back a b h =
-          let e = any_some 64 (λ c. r a c && s c b) h in
-          let p = and_parts (r a e.0) (s e.0 b) e.2 in
-          any_from n e.0 (λ c. r a c && s c b) (on a e.0 p.0).1 e.2
+          let e = any_some 64 _ h in
+          let p = and_parts _ _ e.2 in
+          any_from n e.0 _ (on a e.0 p.0).1 e.2
 
 on_opt : (n : ℕ) (r : Rel) → On n r → On n (opt n r)
 unfolding opt

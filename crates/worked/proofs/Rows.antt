@@ -1,7 +1,6 @@
 -- Relations on a few events, tabulated: a row of tests for each event.
-use Rattle.std.proofs.Common.{◌≡◌, ℕ, zero, suc, ◌+◌, ◌<◌, ◌≤◌, Bool, true, false, ◌⊎◌, List, [], ◌∷◌, get_or, sym, refl, ap, ◌∙◌, inl, inr, ⊎_elim, add-zero, arith}
-use mathlib.Core.Path.{fun_ext}
-use Rattle.std.proofs.lemmas.Bool.{cases_lt, both_ways}
+use Rattle.std.proofs.lemmas.Bool.Decides.{nat_tests}
+use Rattle.std.proofs.Common.{◌≡◌, ℕ, zero, suc, ◌+◌, ◌<◌, ◌≤◌, Bool, false, ◌⊎◌, List, [], ◌∷◌, get_or, sym, refl, ap, ◌∙◌, inl, inr, add-zero, arith}
 use Rattle.relations.specs.Algebra.{Rel}
 use Rattle.relations.specs.Table.{On}
 use Rattle.relations.proofs.Tables.{both_same}
@@ -42,24 +41,13 @@ look t a b = get_or (get_or t a []) b false
 module _ (n : ℕ) (r : Rel) where
   tab_in : (a b : ℕ) → a < n → b < n → look (tab n r) a b ≡ r a b
   unfolding look tab
-  tab_in a b h k =
-      ap (λ (row : List Bool). get_or row b false) (value_in (λ a. values n 0 (r a)) [] n 0 a h)
-      ∙ value_in (r (0 + a)) false n 0 b k ∙ (let e : 0 + a ≡ a = omega arith in let g : 0 + b ≡ b = omega arith in rw (e, g) refl)
+  tab_in a b h k = grind (arith, nat_tests, value_in)
 
   tab_past : (a b : ℕ) → (n ≤ a) ⊎ (n ≤ b) → look (tab n r) a b ≡ false
   unfolding look tab
-  tab_past a b (inl h) = ap (λ (row : List Bool). get_or row b false) (value_past (λ a. values n 0 (r a)) [] n 0 a h)
-  tab_past a b (inr k) = ⊎_elim
-      (λ h. ap (λ (row : List Bool). get_or row b false) (value_in (λ a. values n 0 (r a)) [] n 0 a h) ∙ value_past (r (0 + a)) false n 0 b k)
-      (λ h. ap (λ (row : List Bool). get_or row b false) (value_past (λ a. values n 0 (r a)) [] n 0 a h)) (cases_lt a n)
+  tab_past a b (inl h) = grind (arith, nat_tests, value_past)
+  tab_past a b (inr k) = grind (arith, nat_tests, value_in, value_past)
 
   -- a relation on the first n events is that of its rows
   pub tab_is : On n r → look (tab n r) ≡ r
-  tab_is on = fun_ext λ a. fun_ext λ b. both_same (look (tab n r) a b) (r a b) (there a b) (back a b)
-    where
-      there : (a b : ℕ) → look (tab n r) a b ≡ true → r a b ≡ true
-      there a b e = ⊎_elim (λ h. ⊎_elim (λ k. sym (tab_in a b h k) ∙ e) (λ k. absurd (both_ways _ (tab_past a b (inr k)) e)) (cases_lt b n))
-          (λ h. absurd (both_ways _ (tab_past a b (inl h)) e)) (cases_lt a n)
-
-      back : (a b : ℕ) → r a b ≡ true → look (tab n r) a b ≡ true
-      back a b e = let p = on a b e in tab_in a b p.0 p.1 ∙ e
+  tab_is on = grind (arith, nat_tests, both_same, tab_in, tab_past)
