@@ -16,10 +16,11 @@ const RUNS: u32 = 200;
 
 // How many entries of the first table have the section first; none where Rcu is broken.
 fn section_first(x: &Setting) -> usize {
+    // The bound of a `sum` is not proved here, so the rows are added up in a loop.
     let mut total = 0;
     if let Some(table) = first_table(x) {
-        for l in 0..64 {
-            total += count(table.rows[l]);
+        for row in &table.rows {
+            total += count(*row);
         }
     }
     total
@@ -27,13 +28,15 @@ fn section_first(x: &Setting) -> usize {
 
 // How many steps of a round are period steps.
 fn period_steps(round: &Round) -> usize {
-    let mut total = 0;
-    for i in 0..round.steps {
-        if let Mark::Period = round.marks[i] {
-            total += 1;
-        }
-    }
-    total
+    round.marks[..round.steps]
+        .iter()
+        .filter(|mark| matches!(mark, Mark::Period))
+        .count()
+}
+
+// How many steps a shortest round has; none where there is no round.
+fn round_steps(x: &Setting) -> usize {
+    shortest_round(x).map_or(0, |round| round.steps)
 }
 
 fn report(rt: &HostRuntime, x: &Setting) -> io::Result<()> {
@@ -51,26 +54,16 @@ fn report(rt: &HostRuntime, x: &Setting) -> io::Result<()> {
     }
 }
 
-fn time_table(rt: &HostRuntime, name: &str, x: &Setting) -> io::Result<()> {
+fn time<F: Fn() -> usize>(rt: &HostRuntime, what: &str, work: F) -> io::Result<()>
+    requires { F.IsAlwaysCallable work }
+{
     let start = Instant::now(rt)?;
     let mut sum: usize = 0;
     for _ in 0..RUNS {
-        sum ^= section_first(x);
+        sum ^= work();
     }
     let micros = start.elapsed(rt)?.as_micros() / RUNS as u128;
-    println!(rt; "{name}: first table in {micros} µs ({sum})")
-}
-
-fn time_round(rt: &HostRuntime, name: &str, x: &Setting) -> io::Result<()> {
-    let start = Instant::now(rt)?;
-    let mut sum: usize = 0;
-    for _ in 0..RUNS {
-        if let Some(round) = shortest_round(x) {
-            sum ^= round.steps;
-        }
-    }
-    let micros = start.elapsed(rt)?.as_micros() / RUNS as u128;
-    println!(rt; "{name}: shortest round in {micros} µs ({sum})")
+    println!(rt; "{what} in {micros} µs ({sum})")
 }
 
 fn main(rt: HostRuntime) -> io::Result<()> {
@@ -81,9 +74,9 @@ fn main(rt: HostRuntime) -> io::Result<()> {
         return println!(rt; "the ring does not fit together");
     };
     if env::args(&rt)?.count() > 1 {
-        time_table(&rt, "crowd", &kept)?;
-        time_table(&rt, "ring", &broken)?;
-        return time_round(&rt, "ring", &broken);
+        time(&rt, "crowd: first table", || section_first(&kept))?;
+        time(&rt, "ring: first table", || section_first(&broken))?;
+        return time(&rt, "ring: shortest round", || round_steps(&broken));
     }
     report(&rt, &kept)?;
     report(&rt, &broken)

@@ -1,25 +1,27 @@
 -- The fence pairs of a table, from products of words.
-use Rattle.std.proofs.Common.{◌≡◌, ℕ, ◌+◌, ◌-◌, ◌^◌, ◌<◌, Bool, true, false, cond, not, ◌&&◌, ◌||◌, ltb, sym, refl, ap, ◌∙◌, ap₂, ⊎_elim, add-one}
+use Rattle.std.proofs.Common.{arith}
+use Rattle.std.proofs.lemmas.Bool.Decides.{nat_tests}
+use Rattle.std.proofs.Common.{◌≡◌, ℕ, ◌+◌, ◌-◌, ◌^◌, ◌<◌, Bool, true, false, cond, not, ◌&&◌, ◌||◌, sym, refl, ap, ◌∙◌, ap₂, ⊎_elim, add-one}
 use mathlib.Core.Path.{fun_ext}
-use mathlib.Core.Bool.{and_assoc, and_comm, or_comm, or-false}
+use mathlib.Core.Bool.{and_assoc, and_comm, or-false}
 use lib.Bits.{bit_and}
-use Rattle.std.proofs.lemmas.Bool.{and_parts, and_from, or_cases, or_left, or_right, lt-ltb, false≢true}
+use Rattle.std.proofs.lemmas.Bool.{or_cases, or_left, or_right, false_from_ne_true}
 use Rattle.rows.specs.Row.{bit}
 use Rattle.rows.proofs.Bits.{bit-bit_and, bit_not}
 use Rattle.rows.proofs.Any.{any_some, any_from}
 use Rattle.relations.specs.Algebra.{Set, Rel, any, empty, union, inverse, product, within, image}
 use Rattle.relations.proofs.Images.{image_some}
-use Rattle.relations.proofs.Tables.{both_same, never}
+use Rattle.relations.proofs.Tables.{both_same}
 use Rattle.grace.specs.Scene.{Scene, Within}
 use Rattle.grace.specs.Law.{Table, pair, before_unlock, from_on, section_first, period_first, entry, pairs}
 use Rattle.precedence.specs.Fences.{section_row, period_row, lock_pairs, pairs_below}
-use Rattle.precedence.proofs.Gathering.{any_same}
+use Rattle.settings.proofs.Meeting.{any_same}
 
 -- ---- tests on some number
 
 any_and : (n : ℕ) (t : Bool) (p : Set) → (t && any n p) ≡ any n (λ k. t && p k)
 any_and n true p = refl
-any_and n false p = sym (never _ (λ h. false≢true (any_some n (λ k. false) h).2))
+any_and n false p = grind (arith, nat_tests, false_from_ne_true, any_some)
 
 any_or : (n : ℕ) (p q : Set) → (any n p || any n q) ≡ any n (λ k. p k || q k)
 any_or n p q = both_same _ _ there back
@@ -39,7 +41,7 @@ any_or n p q = both_same _ _ there back
 -- nothing is cut off where all is below n
 within_all : (n : ℕ) (s : Set) → ((a : ℕ) → s a ≡ true → a < n) → within n s ≡ s
 unfolding within
-within_all n s small = fun_ext λ a. both_same (ltb a n && s a) (s a) (λ h. (and_parts (ltb a n) (s a) h).1) (λ h. and_from (ltb a n) (s a) (lt-ltb a n (small a h)) h)
+within_all n s small = grind (arith, nat_tests)
 
 and_first : (s w r : Bool) → (s && (w && r)) ≡ (w && (s && r))
 and_first true w r = refl
@@ -55,9 +57,7 @@ module _ (x : Scene) (l : ℕ) where
   module _ (po_in : Within x.count x.po) (on_in : Within x.count (from_on x)) (n p row : ℕ) (s t : Set) (is_count : n ≡ x.count) (is_period : bit p ≡ x.period) where
     before_in : (a : ℕ) → before_unlock x l a ≡ true → a < x.count
     unfolding before_unlock
-    before_in a h =
-        let e = any_some 64 (λ u. x.po a u && x.crit l u) h in
-        (po_in a e.0 (and_parts (x.po a e.0) (x.crit l e.0) e.2).0).0
+    before_in a h = grind (arith, nat_tests, any_some)
 
     pub section_is : s ≡ before_unlock x l → t ≡ image (from_on x) (bit (bit_and p row)) → product (within n s) (within n t) ≡ section_row x l (bit row)
     unfolding product image section_row section_first
@@ -98,10 +98,7 @@ module _ (x : Scene) (l : ℕ) where
   -- and none where it is not
   row_none : (row : Set) → any 64 (x.crit l) ≡ false → (a b : ℕ) → lock_pairs x l row a b ≡ false
   unfolding lock_pairs pair
-  row_none row none a b = never _ (λ h. false≢true (any_some 64 (λ s. false) (sym (any_same 64 _ _ gone) ∙ h)).2)
-    where
-      gone : (s : ℕ) → s < 64 → ((any 64 (x.crit l) && x.period s) && cond (row s) (section_first x l s) (period_first x l s) a b) ≡ false
-      gone s m = ap (λ (t : Bool). (t && x.period s) && cond (row s) (section_first x l s) (period_first x l s) a b) none
+  row_none row none a b = grind (arith, nat_tests, false_from_ne_true, any_some, any_same)
 
 -- ---- the rows one after another
 
@@ -118,14 +115,10 @@ module _ (x : Scene) (F : Table) where
   pub pairs_more : (l : ℕ) (row : Set) (all new more : Rel) → any 64 (x.crit l) ≡ true → row ≡ F l → all ≡ pairs_below x F l → new ≡ union (section_row x l row) (period_row x l row)
       → more ≡ union all new → more ≡ pairs_below x F (l + 1)
   unfolding union
-  pairs_more l row all new more lock r e f g =
-      g ∙ fun_ext λ a. fun_ext λ b. or_comm (all a b) (new a b)
-      ∙ ap (λ (s : Rel). s a b || all a b) (f ∙ row_is x l row lock ∙ ap (lock_pairs x l) r)
-      ∙ ap (λ (s : Rel). lock_pairs x l (F l) a b || s a b) e
-      ∙ sym (below_next l a b)
+  pairs_more l row all new more lock r e f g = grind (arith, nat_tests, row_is, below_next)
 
   pub pairs_same : (l : ℕ) (all : Rel) → any 64 (x.crit l) ≡ false → all ≡ pairs_below x F l → all ≡ pairs_below x F (l + 1)
-  pairs_same l all none e = e ∙ fun_ext λ a. fun_ext λ b. sym (below_next l a b ∙ ap (λ (t : Bool). t || pairs_below x F l a b) (row_none x l (F l) none a b))
+  pairs_same l all none e = grind (arith, nat_tests, below_next, row_none)
 
   pub pairs_all : (l : ℕ) (all : Rel) → l ≡ 64 → all ≡ pairs_below x F l → all ≡ pairs x F
   unfolding pairs entry pairs_below lock_pairs

@@ -1,18 +1,11 @@
 -- The largest value over a set.
-use Rattle.std.proofs.Common.{◌≡◌, ℕ, zero, suc, ◌<◌, ◌≤◌, max, true, false, cond, sym, ap, ◌∙◌, subst, ⊎_elim, arith}
-use Rattle.std.proofs.lemmas.Bool.{cases_Bool, cases_eq, cond-true, cond-false, both_ways}
+use Rattle.std.proofs.lemmas.Bool.Decides.{nat_tests}
+use Rattle.std.proofs.Common.{◌≡◌, ℕ, zero, suc, ◌<◌, ◌≤◌, max, true, false, ap, ⊎_elim, arith}
+use Rattle.std.proofs.lemmas.Bool.{cases_Bool, cases_eq, cond-true, cond-false}
 use Rattle.rows.specs.Row.{Set, dropping, Lowest}
 use Rattle.rows.proofs.Words.{dropped_parts, dropped_from}
 use Rattle.grace.specs.Sheet.{most}
-
--- it is at least each value, and no more than a bound of them all
-pub most_above : (n k : ℕ) (s : Set) (v : ℕ → ℕ) → k < n → s k ≡ true → v k ≤ most n s v
-unfolding most
-most_above zero k s v lt e = absurd (omega arith)
-most_above (suc n) k s v lt e =
-    ⊎_elim
-    (λ h. let u : cond (s n) (v n) 0 ≡ v k = cond-true (s n) (v n) 0 (subst (λ (m : ℕ). s m ≡ true) h e) ∙ ap v (sym h) in omega (arith, u))
-    (λ h. omega (arith, most_above n k s v (omega arith) e)) (cases_eq k n)
+use Rattle.grace.proofs.Sheets.{most_above, most_none}
 
 pub most_le : (n m : ℕ) (s : Set) (v : ℕ → ℕ) → ((k : ℕ) → k < n → s k ≡ true → v k ≤ m) → most n s v ≤ m
 unfolding most
@@ -21,13 +14,9 @@ most_le (suc n) m s v h =
     let rest = most_le n m s v (λ k l e. h k (omega arith) e) in
     ⊎_elim (λ e. omega (arith, cond-true {A = ℕ} (s n) (v n) 0 e, h n (omega arith) e)) (λ e. omega (arith, cond-false {A = ℕ} (s n) (v n) 0 e)) (cases_Bool (s n))
 
--- of nothing
-pub most_none : (n : ℕ) (s : Set) (v : ℕ → ℕ) → ((x : ℕ) → s x ≡ false) → most n s v ≡ 0
-most_none n s v none = let l = most_le n 0 s v (λ k lt e. absurd (both_ways (s k) (none k) e)) in omega arith
-
 -- of values that are all 0
 pub most_zero : (n : ℕ) (s : Set) (v : ℕ → ℕ) → ((k : ℕ) → k < n → v k ≡ 0) → most n s v ≡ 0
-most_zero n s v none = let l = most_le n 0 s v (λ k lt e. omega (arith, none k lt)) in omega arith
+most_zero n s v none = grind (arith, nat_tests, most_le)
 
 -- one number and the others
 pub most_split : (c : ℕ) (s t : Set) (v : ℕ → ℕ) → Lowest s c → t ≡ dropping c s → most 64 s v ≡ max (v c) (most 64 t v)

@@ -1,16 +1,16 @@
 -- The rows of the first table, read off the sheet one after another.
+use Rattle.std.proofs.lemmas.Bool.Decides.{nat_tests}
 use Rattle.std.proofs.Common.{◌≡◌, ℕ, suc, ◌+◌, ◌≤◌, Bool, true, false, not, ◌&&◌, leb, sym, refl, ap, ◌∙◌, subst, ⊎_elim, arith}
 use mathlib.Core.Path.{fun_ext}
-use Rattle.std.proofs.lemmas.Bool.{and_parts, and_left, or_from, or_left, or_right, cases_lt, both_ways}
+use Rattle.std.proofs.lemmas.Bool.{and_parts, and_left, or_left, or_right, cases_lt, both_ways, false_from_ne_true}
 use Rattle.rows.specs.Row.{bit}
 use Rattle.rows.proofs.Bits.{bit_zero}
 use Rattle.relations.specs.Algebra.{Set, any, within, image}
 use Rattle.relations.specs.Table.{On}
 use Rattle.rows.proofs.Any.{any_some, any_from}
-use Rattle.relations.proofs.Tables.{never}
 use Rattle.grace.specs.Scene.{Scene, Sound}
 use Rattle.grace.specs.Law.{Rcu, pair, before_unlock, from_on}
-use Rattle.grace.specs.Sheet.{Sheet, Fits, most, relayed, turns}
+use Rattle.grace.specs.Sheet.{Sheet, Fits, most, relayed}
 use Rattle.grace.specs.Deciding.{rounds, row, behind, row_sheet, section_sheet, first_table}
 use Rattle.grace.proofs.Stages.{rounds_none, none_rounds, kept_calm, calm_rows, row_fits}
 use Rattle.grace.proofs.Entries.{pair_small}
@@ -21,7 +21,7 @@ use Rattle.precedence.proofs.Turning.{turns_when, relayed_none}
 -- no round at all: none of a period, none of a section
 pub no_rounds : (x : Scene) → any 64 (period_turns x) ≡ false → any 64 (section_turns x) ≡ false → rounds x ≡ false
 unfolding rounds
-no_rounds x p s = or_from (any 64 (period_turns x)) (any 64 (section_turns x)) p s
+no_rounds x p s = grind (arith, nat_tests)
 
 pub row_start : (x : Scene) → section_sheet x 64 ≡ row_sheet x 0
 unfolding row_sheet
@@ -48,7 +48,7 @@ module _ (x : Scene) (sound : Sound x) where
   -- the table has only pairs of a section and a period
   pub first_on : On 64 (first_table x)
   unfolding first_table row
-  first_on l s e = pair_small x sound l s (and_parts (pair x l s) (not (turns (row_sheet x l) (before_unlock x l) (from_on x s) 0 0)) e).0
+  first_on l s e = grind (arith, nat_tests, pair_small)
 
   -- a lock of no section: an empty row, and the sheet as it was
   module _ (l : ℕ) (none : any 64 (x.crit l) ≡ false) where
@@ -58,16 +58,16 @@ module _ (x : Scene) (sound : Sound x) where
 
     no_before : (a : ℕ) → before_unlock x l a ≡ false
     unfolding before_unlock
-    no_before a = never _ (λ h.
+    no_before a = false_from_ne_true _ (λ h.
         let e = any_some 64 (λ u. x.po a u && x.crit l u) h in
         both_ways _ none (any_from 64 e.0 (x.crit l) e.1 (and_parts (x.po a e.0) (x.crit l e.0) e.2).1))
 
     pub empty_row : bit 0 ≡ first_table x l
     unfolding row
-    empty_row = (fun_ext λ s. bit_zero s ∙ sym (and_left (pair x l s) (not (turns (row_sheet x l) (before_unlock x l) (from_on x s) 0 0)) (no_pair s))) ∙ sym (first_row x l)
+    empty_row = grind (arith, nat_tests, bit_zero, no_pair, first_row)
 
     pub same_sheet : (m : Sheet) → m ≡ row_sheet x l → m ≡ row_sheet x (suc l)
-    same_sheet m e = e ∙ relayed_none (row_sheet x l) (before_unlock x l) (behind x (row_sheet x l) l) 0 0 no_before ∙ sym (row_next x l)
+    same_sheet m e = grind (arith, nat_tests, relayed_none, no_before, row_next)
 
   -- a lock of a section: the periods after which nothing closes a round with it
   module _ (l : ℕ) (lock : any 64 (x.crit l) ≡ true) (m : Sheet) (into closing word out : Set) (reach : ℕ → ℕ) (here : m ≡ row_sheet x l) (i : into ≡ before_unlock x l)
@@ -85,11 +85,11 @@ module _ (x : Scene) (sound : Sound x) where
     row_word = fun_ext λ s. ⊎_elim (λ h. gathered_at word _ s h w ∙ row_entry s) (λ h. gathered_far word _ s h w ∙ sym (far s h)) (cases_lt s 64)
       where
         far : (s : ℕ) → 64 ≤ s → row x m l s ≡ false
-        far s h = never (row x m l s) (λ e. both_ways (x.period s)
-            (never _ (λ p. omega (arith, sound.period_within s p, sound.few))) (and_parts (x.period s) _ (row_entry s ∙ e)).0)
+        far s h = false_from_ne_true (row x m l s) (λ e. both_ways (x.period s)
+            (false_from_ne_true _ (λ p. omega (arith, sound.period_within s p, sound.few))) (and_parts (x.period s) _ (row_entry s ∙ e)).0)
 
     pub row_is : word ≡ first_table x l
-    row_is = row_word ∙ ap (λ (k : Sheet). row x k l) here ∙ sym (first_row x l)
+    row_is = grind (arith, nat_tests, row_word, first_row)
 
     module _ (o : out ≡ image (from_on x) word) where
       behind_is : out ≡ behind x m l

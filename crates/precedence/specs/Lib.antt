@@ -1,3 +1,4 @@
+pub mod Relays
 pub mod Rows
 pub mod Turns
 pub mod Fences

@@ -1,21 +1,24 @@
 // A sheet of balances: for each two events 0 where nothing leads from one to the other, else 128 and the periods, less the sections, of
 // the best way.
-ghost use Rattle.std.specs.Prelude.{◌≡◌, ℕ, ◌+◌, ◌≤◌, max, true, false, not, if◌then◌else◌, nat_le};
+// Rows are written entry by entry with the index at hand: over `iter_mut().zip(..)` an invariant has no name for what was written.
+ghost use Rattle.std.specs.Prelude.{◌≡◌, ℕ, ◌+◌, ◌<◌, ◌≤◌, max, false, not, is_some, IfSome, if◌then◌else◌, nat_le};
 ghost use Rattle.rows.specs.Row.{bit};
 ghost use Rattle.relations.specs.Algebra.{within};
 ghost use Rattle.relations.specs.View.{rel};
-ghost use Rattle.grace.specs.Sheet.{Fits, most, joined, relayed, turns};
-ghost use Rattle.precedence.specs.Rows.{cells, sheet};
+ghost use Rattle.grace.specs.Sheet.{Fits, most};
+ghost use Rattle.precedence.specs.Relays.{turned, after, joined_over};
+ghost use Rattle.precedence.specs.Rows.{cells, sheet, ArePassing};
 
 use relations::Relation;
-use rows::{has, lowest, with, without};
+use rows::{has, members, with};
 use settings::meets;
 
 pub type Row = [u8; 64];
 
 pub type Sheet = [Row; 64];
 
-// A relay leads from each event of a set to each of another, and counts as so many periods and sections.
+// A relay leads from each event of a set to each of another, and counts as so many periods and sections: numbers and not a kind, since they
+// are summed with the balances.
 #[derive(Clone, Copy)]
 pub(crate) struct Relay {
     pub(crate) into: u64,
@@ -29,10 +32,8 @@ pub fn best(row: &Row, set: u64) -> u8
     ensures { result ≡ most 64 (bit set) (cells row.now) }
 {
     let mut most = 0;
-    let mut rest = set;
-    while let Some(c) = lowest(rest) {
+    for c in members(set) {
         most = row[c].max(most);
-        rest = without(rest, c);
     }
     most
 }
@@ -41,8 +42,8 @@ pub fn best(row: &Row, set: u64) -> u8
 fn raise(row: &mut Row, other: &Row)
     ensures { cells row.new ≡ (λ b. max (cells row.old b) (cells other.now b)) }
 {
-    for b in 0..64 {
-        row[b] = row[b].max(other[b]);
+    for (b, entry) in row.iter_mut().enumerate() {
+        *entry = (*entry).max(other[b]);
     }
 }
 
@@ -51,10 +52,8 @@ fn onward(m: &Sheet, set: u64) -> Row
     ensures { cells result ≡ (λ b. most 64 (bit set) (λ d. sheet m.now d b)) }
 {
     let mut all = [0; 64];
-    let mut rest = set;
-    while let Some(d) = lowest(rest) {
+    for d in members(set) {
         raise(&mut all, &m[d]);
-        rest = without(rest, d);
     }
     all
 }
@@ -64,21 +63,18 @@ pub(crate) fn reaches(m: &Sheet, into: u64) -> Row
     ensures { cells result ≡ (λ d. most 64 (bit into) (sheet m.now d)) }
 {
     let mut all = [0; 64];
-    for d in 0..64 {
-        all[d] = best(&m[d], into);
+    for (d, entry) in all.iter_mut().enumerate() {
+        *entry = best(&m[d], into);
     }
     all
 }
 
 // The entry for two ways, one after the other, with a relay between them.
 fn join(u: u8, v: u8, relay: &Relay) -> u8
-    requires { joined relay.now.periods relay.now.sections u v ≤ 255 }
-    ensures { result ≡ joined relay.now.periods relay.now.sections u v }
+    requires { joined_over relay.now u v ≤ 255 }
+    ensures { result ≡ joined_over relay.now u v }
 {
-    if u == 0 {
-        return 0;
-    }
-    if v == 0 {
+    if u == 0 || v == 0 {
         return 0;
     }
     (u as u16 + v as u16 + relay.periods as u16).saturating_sub(128 + relay.sections as u16) as u8
@@ -86,57 +82,65 @@ fn join(u: u8, v: u8, relay: &Relay) -> u8
 
 // Raises each entry of a row to that of the way over the relay: `reach` leads to it, and `on` leads on from it.
 fn join_row(row: &mut Row, reach: u8, on: &Row, relay: &Relay)
-    requires { (b : ℕ) → joined relay.now.periods relay.now.sections reach (cells on.now b) ≤ 255 }
-    ensures { cells row.new ≡ (λ b. max (cells row.old b) (joined relay.now.periods relay.now.sections reach (cells on.now b))) }
+    requires { (b : ℕ) → joined_over relay.now reach (cells on.now b) ≤ 255 }
+    ensures { cells row.new ≡ (λ b. max (cells row.old b) (joined_over relay.now reach (cells on.now b))) }
 {
-    for b in 0..64 {
-        row[b] = row[b].max(join(reach, on[b], relay));
+    for (b, entry) in row.iter_mut().enumerate() {
+        *entry = (*entry).max(join(reach, on[b], relay));
     }
 }
 
 // The sheet with a relay besides. Only rows from which the relay is reached change.
 pub(crate) fn add_relay(m: &mut Sheet, reach: &Row, relay: &Relay)
     requires reached { cells reach.now ≡ (λ d. most 64 (bit relay.now.into) (sheet m.old d)) }
-    requires fits { Fits (relayed (sheet m.old) (bit relay.now.into) (bit relay.now.out) relay.now.periods relay.now.sections) }
-    ensures { sheet m.new ≡ relayed (sheet m.old) (bit relay.now.into) (bit relay.now.out) relay.now.periods relay.now.sections }
+    requires fits { Fits (after (sheet m.old) relay.now) }
+    ensures { sheet m.new ≡ after (sheet m.old) relay.now }
 {
     let on = onward(m, relay.out);
-    for a in 0..64 {
+    for (a, row) in m.iter_mut().enumerate() {
         if reach[a] != 0 {
-            join_row(&mut m[a], reach[a], &on, relay);
+            join_row(row, reach[a], &on, relay);
         }
     }
+}
+
+// The events that pass a test: e is the event, and no index.
+pub(crate) fn those<F: Fn(usize) -> bool>(test: F) -> u64
+    requires { (e : ℕ) → e < 64 → F.pre test e }
+    ensures { ArePassing (F.post test) (bit result) }
+{
+    let mut all = 0;
+    for e in 0..64 {
+        if test(e) {
+            all = with(all, e);
+        }
+    }
+    all
 }
 
 // The events from which a way leads to a relay with at least as many periods as sections, those of the relay counted.
 pub(crate) fn closing(reach: &Row, periods: u8, sections: u8) -> u64
     ensures { bit result ≡ within 64 (λ d. nat_le (128 + sections) (cells reach.now d + periods)) }
 {
-    let mut all = 0;
-    for d in 0..64 {
-        if 128 + sections as u16 <= reach[d] as u16 + periods as u16 {
-            all = with(all, d);
-        }
-    }
-    all
+    those(|d| 128 + sections as u16 <= reach[d] as u16 + periods as u16)
 }
 
 // Adds a period or a section, unless it makes a round with what the sheet has.
-pub(crate) fn add_node(m: &mut Sheet, relay: &Relay) -> bool
+pub(crate) fn add_node(m: &mut Sheet, relay: &Relay) -> Option<()>
     requires one_period { relay.now.periods ≤ 1 }
-    requires fits { turns (sheet m.old) (bit relay.now.into) (bit relay.now.out) relay.now.periods relay.now.sections ≡ false → Fits (relayed (sheet m.old) (bit relay.now.into) (bit relay.now.out) relay.now.periods relay.now.sections) }
-    ensures calm { result ≡ not (turns (sheet m.old) (bit relay.now.into) (bit relay.now.out) relay.now.periods relay.now.sections) }
-    ensures more { result ≡ true → sheet m.new ≡ relayed (sheet m.old) (bit relay.now.into) (bit relay.now.out) relay.now.periods relay.now.sections }
+    requires fits { turned (sheet m.old) relay.now ≡ false → Fits (after (sheet m.old) relay.now) }
+    ensures calm { is_some result ≡ not (turned (sheet m.old) relay.now) }
+    ensures more { IfSome result (λ _. sheet m.new ≡ after (sheet m.old) relay.now) }
 {
     if relay.into == 0 {
-        return true;
+        return Some(());
     }
     let reach = reaches(m, relay.into);
     if meets(relay.out, closing(&reach, relay.periods, relay.sections)) {
-        return false;
+        return None;
     }
     add_relay(m, &reach, relay);
-    true
+    Some(())
 }
 
 // The entries of an event that is linked to each of a set.
@@ -144,8 +148,8 @@ fn link_row(targets: u64) -> Row
     ensures { cells result ≡ (λ b. (if bit targets b then 128 else 0)) }
 {
     let mut row = [0; 64];
-    for b in 0..64 {
-        row[b] = if has(targets, b) { 128 } else { 0 };
+    for (b, entry) in row.iter_mut().enumerate() {
+        *entry = if has(targets, b) { 128 } else { 0 };
     }
     row
 }
@@ -155,8 +159,8 @@ pub(crate) fn links(link: &Relation) -> Sheet
     ensures { sheet result ≡ (λ a b. (if rel link.now a b then 128 else 0)) }
 {
     let mut m = [[0; 64]; 64];
-    for a in 0..link.events() {
-        m[a] = link_row(link.row(a));
+    for (a, row) in m[..link.events()].iter_mut().enumerate() {
+        *row = link_row(link.row(a));
     }
     m
 }

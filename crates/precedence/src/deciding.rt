@@ -1,62 +1,75 @@
 // Rcu decided and the first table found, on one sheet of balances: links first, then each period, each section and each row of the table
 // as a relay.
-ghost use Rattle.std.specs.Prelude.{◌≡◌, ℕ, suc, ◌<◌, true, false, not, ◌&&◌, is_some, IfSome, Decides};
+ghost use Rattle.std.specs.Prelude.{◌≡◌, ℕ, suc, ◌<◌, ◌≤◌, false, not, ◌&&◌, is_some, IfSome, Decides};
 ghost use Rattle.rows.specs.Row.{bit};
 ghost use Rattle.relations.specs.Algebra.{any, within};
 ghost use Rattle.relations.specs.Chains.{Acyclic};
 ghost use Rattle.relations.specs.Table.{table};
-ghost use Rattle.grace.specs.Scene.{pb};
+ghost use Rattle.grace.specs.Scene.{Scene, pb};
 ghost use Rattle.grace.specs.Law.{Rcu, from_on};
 ghost use Rattle.grace.specs.First.{First};
-ghost use Rattle.grace.specs.Deciding.{link_sheet, period_sheet, section_sheet, row_sheet, rounds, first_table};
+ghost use Rattle.grace.specs.Sheet.{Fits};
+ghost use Rattle.grace.specs.Deciding.{section_sheet, row_sheet, rounds, first_table};
+ghost use Rattle.precedence.specs.Relays.{Stairs, turning, IsRelay, periods, sections};
 ghost use Rattle.precedence.specs.Rows.{sheet};
-ghost use Rattle.precedence.specs.Turns.{period_turns, section_turns};
 ghost use Rattle.settings.specs.View.{scene};
 
-use crate::balances::{Relay, Sheet, add_node, add_relay, closing, links, reaches};
+use crate::balances::{Relay, Sheet, add_node, add_relay, closing, links, reaches, those};
 use crate::kinds::FirstTable;
-use rows::with;
 use settings::{Setting, meets};
 
-// Adds the periods one after another; false where one makes a round with those before it.
-fn add_periods(x: &Setting, m: &mut Sheet) -> bool
-    requires { sheet m.old ≡ link_sheet (scene x.now) }
-    ensures calm { result ≡ not (any 64 (period_turns (scene x.now))) }
-    ensures more { result ≡ true → sheet m.new ≡ period_sheet (scene x.now) 64 }
-{
-    for s in 0..64 {
-        let period = Relay {
+// A kind of relay, one for each event: `stairs` has the sheets that they make one after another.
+trait Kind {
+    ghost stairs: { Scene → Stairs };
+
+    fn relay(x: &Setting, k: usize) -> Relay
+        ensures { IsRelay (stairs (scene x.now)) k result };
+}
+
+struct Periods;
+
+struct Sections;
+
+// No way leads to s where it is no period.
+impl Kind for Periods {
+    ghost stairs = { periods };
+
+    fn relay(x: &Setting, s: usize) -> Relay {
+        Relay {
             into: x.before_period(s),
             out: x.from_on(s),
             periods: 1,
             sections: 0,
-        };
-        if !add_node(m, &period) {
-            return false;
         }
     }
-    true
 }
 
-// Adds the sections one after another; false where one makes a round with the periods and the sections before it.
-fn add_sections(x: &Setting, m: &mut Sheet) -> bool
-    requires after_periods { sheet m.old ≡ period_sheet (scene x.now) 64 }
-    requires calm { any 64 (period_turns (scene x.now)) ≡ false }
-    ensures calm { result ≡ not (any 64 (section_turns (scene x.now))) }
-    ensures more { result ≡ true → sheet m.new ≡ section_sheet (scene x.now) 64 }
-{
-    for l in 0..64 {
-        let section = Relay {
+// No way leads to l where it is no lock.
+impl Kind for Sections {
+    ghost stairs = { sections };
+
+    fn relay(x: &Setting, l: usize) -> Relay {
+        Relay {
             into: x.before_unlock(l),
             out: x.from_on(l),
             periods: 0,
             sections: 1,
-        };
-        if !add_node(m, &section) {
-            return false;
         }
     }
-    true
+}
+
+// Adds the relays of a kind one after another; none where one makes a round with those before it. k is the event of a relay, and no index.
+fn add_all<K: Kind>(x: &Setting, m: &mut Sheet) -> Option<()>
+    requires start { sheet m.old ≡ (K.stairs (scene x.now)).stage 0 }
+    requires one_period { (K.stairs (scene x.now)).up ≤ 1 }
+    requires fits { (k : ℕ) → ((i : ℕ) → i < k → turning (K.stairs (scene x.now)) i ≡ false) → Fits ((K.stairs (scene x.now)).stage k) }
+    ensures calm { is_some result ≡ not (any 64 (turning (K.stairs (scene x.now)))) }
+    ensures more { IfSome result (λ _. sheet m.new ≡ (K.stairs (scene x.now)).stage 64) }
+{
+    for k in 0..64 {
+        add_node(m, &K::relay(x, k))?;
+    }
+    Some(())
 }
 
 // Whether s is a period after which no event closes a round with a section.
@@ -70,13 +83,7 @@ fn comes_after(x: &Setting, closing: u64, s: usize) -> bool
 fn all_after(x: &Setting, closing: u64) -> u64
     ensures { bit result ≡ within 64 (λ s. (scene x.now).period s && not (any 64 (λ d. from_on (scene x.now) s d && bit closing d))) }
 {
-    let mut all = 0;
-    for s in 0..64 {
-        if comes_after(x, closing, s) {
-            all = with(all, s);
-        }
-    }
-    all
+    those(|s| comes_after(x, closing, s))
 }
 
 // The row of lock l, and the sheet with that row besides.
@@ -112,8 +119,8 @@ fn all_rows(x: &Setting, m: &mut Sheet) -> [u64; 64]
     ensures { table result ≡ first_table (scene x.now) }
 {
     let mut rows = [0; 64];
-    for l in 0..64 {
-        rows[l] = add_row(x, m, l);
+    for (l, row) in rows.iter_mut().enumerate() {
+        *row = add_row(x, m, l);
     }
     rows
 }
@@ -125,12 +132,8 @@ pub fn first_table(x: &Setting) -> Option<FirstTable>
     ensures words { IfSome result (λ t. table t.rows ≡ first_table (scene x.now)) }
 {
     let mut m = links(&x.link());
-    if !add_periods(x, &mut m) {
-        return None;
-    }
-    if !add_sections(x, &mut m) {
-        return None;
-    }
+    add_all::<Periods>(x, &mut m)?;
+    add_all::<Sections>(x, &mut m)?;
     Some(FirstTable {
         rows: all_rows(x, &mut m),
     })

@@ -29,9 +29,9 @@ fn table_pairs(x: &Setting, table: &FirstTable) -> Relation
     ensures events { size result ≡ (scene x.now).count }
 {
     let mut all = Relation::empty(x.events());
-    for l in 0..64 {
+    for (l, row) in table.rows.iter().enumerate() {
         if x.is_lock(l) {
-            all = all.union(&row_pairs(x, l, table.rows[l]));
+            all = all.union(&row_pairs(x, l, *row));
         }
     }
     all

@@ -1,19 +1,21 @@
 -- Layers: how far the tallies reach, and that they are as large as any walk.
+use Rattle.std.proofs.lemmas.Bool.Decides.{nat_tests}
 use Rattle.std.proofs.Common.{◌≡◌, ℕ, zero, suc, ◌+◌, ◌-◌, ◌*◌, ◌<◌, ◌≤◌, Bool, true, false, eqb, List, length, get_or, set, sym, refl, ap, ◌∙◌, ⊎_elim, arith}
 use Rattle.std.proofs.lemmas.List.{get_or-set_same, get_or-set_other}
 use Rattle.std.proofs.lemmas.Bool.{cases_eq, eq-eqb, ne_eqb}
 use Rattle.rows.specs.Row.{tick}
 use Rattle.relations.specs.Algebra.{Rel}
-use Rattle.grace.specs.Scene.{Scene, Sound, gp, rscs, link}
+use Rattle.grace.specs.Scene.{Scene, Sound}
 use Rattle.grace.specs.Law.{Walk, Walk.here, Walk.by_period, Walk.by_section}
 use Rattle.grace.specs.Sheet.{most}
 use Rattle.grace.proofs.Closure.{seq_parts}
 use Rattle.grace.proofs.Rules.{link_ends}
 use Rattle.precedence.specs.Rows.{cells}
 use Rattle.precedence.proofs.Cells.{cells_are}
-use Rattle.precedence.proofs.Largest.{most_above, most_le, most_none}
+use Rattle.precedence.proofs.Largest.{most_le}
 use Rattle.rounds.specs.Layers.{raised, further, tally}
 use Rattle.rounds.specs.Marks.{period_step, section_step}
+use Rattle.grace.proofs.Sheets.{most_above, most_none}
 
 pub raised_zero : (n : ℕ) → n ≡ 0 → 0 ≡ raised n
 unfolding raised
@@ -50,7 +52,7 @@ tally_byte p s k b a l = omega (arith, tally_le p s k b a)
 -- an event with no steps
 pub further_none : (p s : Rel) (v : ℕ → ℕ) (a : ℕ) → ((c : ℕ) → p a c ≡ false) → ((c : ℕ) → s a c ≡ false) → further p s v a ≡ 0
 unfolding further
-further_none p s v a f g = omega (arith, sym (raised_zero (most 64 (p a) v) (most_none 64 (p a) v f)), most_none 64 (s a) v g)
+further_none p s v a f g = grind (arith, nat_tests, raised_zero, most_none)
 
 -- one step further
 pub tally_next : (p s : Rel) (k b : ℕ) (v : ℕ → ℕ) → v ≡ tally p s k b → further p s v ≡ tally p s (suc k) b
@@ -87,11 +89,11 @@ step_down p s k b a c l e = omega (arith, most_above 64 c (s a) (tally p s k b) 
 module _ (x : Scene) (sound : Sound x) where
   up_ends : (a c : ℕ) → period_step x a c ≡ true → c < x.count
   unfolding period_step
-  up_ends a c e = let m = seq_parts (gp x) (link x x.strong) e in link_ends x sound x.strong m.0 c m.3
+  up_ends a c e = grind (arith, nat_tests, seq_parts, link_ends)
 
   down_ends : (a c : ℕ) → section_step x a c ≡ true → c < x.count
   unfolding section_step
-  down_ends a c e = let m = seq_parts (rscs x) (link x x.strong) e in link_ends x sound x.strong m.0 c m.3
+  down_ends a c e = grind (arith, nat_tests, seq_parts, link_ends)
 
   -- a walk is in the tally of its steps
   pub walk_tally : {p q a b : ℕ} (k : ℕ) → p + q ≡ k → Walk x x.strong p q a b → suc p ≤ tally (period_step x) (section_step x) k b a

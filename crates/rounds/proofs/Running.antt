@@ -1,6 +1,7 @@
 -- Rounds as closed walks: rotated, cut where an event stands twice, and so the shortest.
+use Rattle.std.proofs.lemmas.Bool.Decides.{nat_tests}
 use Rattle.std.proofs.Common.{◌≡◌, ℕ, zero, suc, ◌+◌, ◌-◌, ◌*◌, ◌<◌, ◌≤◌, true, cond, ltb, List, length, get_or, sym, refl, ap, ◌∙◌, subst, subst₂, ⊎_elim, arith}
-use Rattle.std.proofs.lemmas.Bool.{cond-true, cond-false, lt-ltb, le-ltb, cases_lt, cases_order}
+use Rattle.std.proofs.lemmas.Bool.{cases_lt, cases_order}
 use Rattle.rows.specs.Row.{count, tick}
 use Rattle.relations.specs.Algebra.{Rel}
 use Rattle.grace.specs.Scene.{Scene, Sound}
@@ -33,7 +34,7 @@ module _ (x : Scene) (sound : Sound x) where
 
   -- one after the other
   joined : {p q m n u v a b c : ℕ} → Walk x x.strong p q a b → Walk x x.strong m n b c → u ≡ p + m → v ≡ q + n → Walk x x.strong u v a c
-  joined {a = a} {c = c} here w e f = subst₂ (λ u v. Walk x x.strong u v a c) (omega arith) (omega arith) w
+  joined {a = a} {c = c} here w e f = grind (arith, nat_tests)
   joined {v = v} {a = a} {c = c} (by_period s t) w e f = subst (λ u. Walk x x.strong u v a c) (omega arith) (by_period s (joined t w refl f))
   joined {u = u} {a = a} {c = c} (by_section s t) w e f = subst (λ v. Walk x x.strong u v a c) (omega arith) (by_section s (joined t w e refl))
 
@@ -77,23 +78,14 @@ module _ (x : Scene) (sound : Sound x) where
   module _ (es : List ℕ) (ms : List Mark) (c : IsRcuRound x es ms) where
     around_in : (i : ℕ) → i < length es → around es i ≡ get_or es i 0
     unfolding around
-    around_in i l = cond-true (ltb i (length es)) (get_or es i 0) (get_or es 0 0) (lt-ltb i (length es) l)
+    around_in i l = grind (arith, nat_tests)
 
     around_end : around es (length es) ≡ get_or es 0 0
     unfolding around
-    around_end = cond-false (ltb (length es) (length es)) (get_or es (length es) 0) (get_or es 0 0) (le-ltb (length es) (length es) (omega arith))
+    around_end = grind (arith, nat_tests)
 
     around_run : Run (period_step x) (section_step x) (λ i. get_or ms i Period) (around es) (length es)
-    around_run i l = ⊎_elim inner last (cases_lt (suc i) (length es))
-      where
-        inner : suc i < length es → by (period_step x) (section_step x) (get_or ms i Period) (around es i) (around es (suc i)) ≡ true
-        inner h = rw (around_in i l, around_in (suc i) h) (c.steps i h)
-
-        last : length es ≤ suc i → by (period_step x) (section_step x) (get_or ms i Period) (around es i) (around es (suc i)) ≡ true
-        last h =
-            let p : suc i ≡ length es = omega arith in
-            let q : length es - 1 ≡ i = omega arith in
-            rw (around_in i l, p, around_end) (subst (λ (k : ℕ). by (period_step x) (section_step x) (get_or ms k Period) (get_or es k 0) (get_or es 0 0) ≡ true) q c.back)
+    around_run i l = grind (arith, nat_tests, around_in, around_end)
 
     -- its period steps, and that they are at least half
     all : ℕ
@@ -101,7 +93,7 @@ module _ (x : Scene) (sound : Sound x) where
 
     half : length es ≤ 2 * all
     unfolding all
-    half = omega (arith, c.enough, c.marked, periods_count ms, marks_total ms, ap (λ (n : ℕ). count n (at_periods ms)) c.marked)
+    half = grind (arith, nat_tests, periods_count, marks_total, at_periods)
 
     part : (d i j : ℕ) → i + d ≡ j → j ≤ length es
         → (p : ℕ) × (q : ℕ) × Walk x x.strong p q (around es i) (around es j) × (p + q ≡ d) × (p + count i (at_periods ms) ≡ count j (at_periods ms))

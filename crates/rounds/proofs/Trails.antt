@@ -1,7 +1,8 @@
 -- A round traced from its start, one best step after another.
-use Rattle.std.proofs.Common.{◌≡◌, ℕ, suc, ◌+◌, ◌-◌, ◌*◌, ◌<◌, ◌≤◌, max, Bool, true, false, cond, eqb, ltb, List, length, get_or, take, set, sym, refl, ap, ◌∙◌, subst, ap₂, ⊎_elim, add-one, arith}
+use Rattle.std.proofs.lemmas.Bool.Decides.{nat_tests}
+use Rattle.std.proofs.Common.{◌≡◌, ℕ, suc, ◌+◌, ◌-◌, ◌*◌, ◌<◌, ◌≤◌, max, true, cond, ltb, List, length, get_or, take, set, sym, refl, ap, ◌∙◌, ap₂, ⊎_elim, add-one, arith}
 use Rattle.std.proofs.lemmas.List.{get_or-set_same, get_or-set_other, length-set, get_or-take, length-take-le}
-use Rattle.std.proofs.lemmas.Bool.{cond-true, cond-false, lt-ltb, le-ltb, cases_lt, cases_eq, eqb-true}
+use Rattle.std.proofs.lemmas.Bool.{cond-true, cond-false, lt-ltb, le-ltb, cases_lt}
 use Rattle.rows.specs.Row.{Set, count, tick}
 use Rattle.relations.specs.Algebra.{Rel}
 use Rattle.grace.specs.Sheet.{most}
@@ -38,18 +39,7 @@ pub record Trail (p s : Rel) (es : List ℕ) (ms : List Mark) (i k start at : �
   pub sum : count i (at_periods ms) + tally p s (k - i) start at ≡ tally p s k start start
 
 pub trail_first : (p s : Rel) (es : List ℕ) (ms : List Mark) (k start : ℕ) → length es ≡ 64 → length ms ≡ 64 → start < 64 → 1 ≤ tally p s k start start → Trail p s es ms 0 k start start
-trail_first p s es ms k start e m l some =
-    let n : k - 0 ≡ k = omega arith in
-    let t = ap (λ (j : ℕ). tally p s j start start) n in
-    record {
-      long = e;
-      long_marks = m;
-      room = l;
-      run = λ j h. absurd (omega arith);
-      head = path_out es 0 start 0 (omega arith);
-      some = omega arith;
-      sum = omega (arith, count_none (at_periods ms));
-    }
+trail_first p s es ms k start e m l some = grind (arith, nat_tests, path_out, count_none, at_periods)
 
 -- there is a next step
 module _ (p s : Rel) (es : List ℕ) (ms : List Mark) (i k start at : ℕ) (l : i < k) (t : Trail p s es ms i k start at)
@@ -70,11 +60,7 @@ module _ (p s : Rel) (es : List ℕ) (ms : List Mark) (i k start at : ℕ) (l : 
     one Section = refl
 
     taken : by p s m at c ≡ true
-    taken = go m o.taken
-      where
-        go : (n : Mark) → by up down n c ≡ true → by p s n at c ≡ true
-        go Period h = sym (ap (λ (f : Set). f c) u) ∙ h
-        go Section h = sym (ap (λ (f : Set). f c) d) ∙ h
+    taken = grind (arith, nat_tests)
 
     events_in : (j : ℕ) → j < i → get_or (set es i at) j 0 ≡ get_or es j 0
     events_in j h = get_or-set_other es i j at 0 (λ z. omega arith)
@@ -92,14 +78,7 @@ module _ (p s : Rel) (es : List ℕ) (ms : List Mark) (i k start at : ℕ) (l : 
         (λ z. let e : j ≡ i = omega arith in ap (λ (n : ℕ). get_or (set es i at) n 0) e ∙ get_or-set_same es i at 0 (omega (arith, t.long)) ∙ sym (path_out es i at j z)) (cases_lt j i)
 
     run_new : Run p s (λ j. get_or (set ms i m) j Period) (path (set es i at) (i + 1) c) (i + 1)
-    run_new j h = ⊎_elim last before (cases_eq j i)
-      where
-        last : j ≡ i → by p s (get_or (set ms i m) j Period) (path (set es i at) (i + 1) c j) (path (set es i at) (i + 1) c (suc j)) ≡ true
-        last z =
-            rw (path_new j (omega arith), path_out (set es i at) (i + 1) c (suc j) (omega arith), path_out es i at j (omega arith), z, mark_new) taken
-
-        before : (j ≡ i → ⊥) → by p s (get_or (set ms i m) j Period) (path (set es i at) (i + 1) c j) (path (set es i at) (i + 1) c (suc j)) ≡ true
-        before z = rw (marks_in j (omega arith), path_new j (omega arith), path_new (suc j) (omega arith)) (t.run j (omega arith))
+    run_new j h = grind (arith, nat_tests, path_new, path_out, mark_new, taken, marks_in)
 
     sum_new : count (i + 1) (at_periods (set ms i m)) + tally p s (k - (i + 1)) start c ≡ tally p s k start start
     sum_new =
@@ -111,28 +90,14 @@ module _ (p s : Rel) (es : List ℕ) (ms : List Mark) (i k start at : ℕ) (l : 
         omega (arith, rest, more, one m, o.best, left, t.sum)
 
     pub trail_more : Trail p s (set es i at) (set ms i m) (i + 1) k start c
-    trail_more = record {
-      long = length-set es i at ∙ t.long;
-      long_marks = length-set ms i m ∙ t.long_marks;
-      room = o.room;
-      run = run_new;
-      head = path_new 0 (omega arith) ∙ t.head;
-      some =
-          let n : k - (i + 1) ≡ k - 1 - i = omega arith in
-          omega (arith, ap (λ (j : ℕ). tally p s j start c) n, ap (λ (f : ℕ → ℕ). f c) w, o.goes);
-      sum = sum_new;
-    }
+    trail_more = grind (arith, nat_tests, length-set, run_new, path_new, sum_new)
 
 -- at the end of the steps it is a round
 module _ (p s : Rel) (es : List ℕ) (ms : List Mark) (i k start at : ℕ) (pos : 0 < k) (few : k ≤ 64) (end : i ≡ k) (t : Trail p s es ms i k start at)
     (closes : k + 2 ≤ 2 * tally p s k start start) where
   home : (tally p s 0 start at ≡ 1) × (at ≡ start)
   unfolding tally
-  home = let n : k - i ≡ 0 = omega arith in go (eqb at start) refl (subst (λ (j : ℕ). 1 ≤ tally p s j start at) n t.some)
-    where
-      go : (b : Bool) → eqb at start ≡ b → 1 ≤ tick (eqb at start) → (tick (eqb at start) ≡ 1) × (at ≡ start)
-      go true e l = (ap tick e, eqb-true at start e)
-      go false e l = absurd (omega (arith, ap tick e))
+  home = grind (arith, nat_tests)
 
   size : length (take k es) ≡ k
   size = length-take-le k es (omega (arith, t.long))
@@ -141,7 +106,7 @@ module _ (p s : Rel) (es : List ℕ) (ms : List Mark) (i k start at : ℕ) (pos 
   size_marks = length-take-le k ms (omega (arith, t.long_marks))
 
   event_at : (j : ℕ) → j < k → get_or (take k es) j 0 ≡ path es i at j
-  event_at j l = get_or-take k es j 0 l ∙ sym (path_in es i at j (omega arith))
+  event_at j l = grind (arith, nat_tests, get_or-take, path_in)
 
   mark_at : (j : ℕ) → j < k → get_or (take k ms) j Period ≡ get_or ms j Period
   mark_at j l = get_or-take k ms j Period l

@@ -8,7 +8,8 @@ pub enum Mark {
     Section = 2,
 }
 
-// A round: from each of the first `steps` events a step of its mark leads to the next, and from the last of them to the first.
+// A round: from each of the first `steps` events a step of its mark leads to the next, and from the last of them to the first. Events and
+// marks are two arrays, and not one of pairs, since each is a column of its own where a round is listed.
 #[derive(Clone, Copy)]
 pub struct Round {
     pub events: [u8; 64],

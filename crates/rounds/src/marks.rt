@@ -5,7 +5,7 @@ ghost use Rattle.rounds.specs.Marks.{number};
 use crate::kinds::Mark;
 
 impl Mark {
-    // 1 for a period step, 2 for a section step.
+    // The published number: 1 for a period step, 2 for a section step.
     pub fn number(self) -> u8
         ensures { result ≡ number self }
     {

@@ -1,4 +1,6 @@
 // A shortest round: layers of exactly 1, 2, .. steps until one comes back, and then its steps one after another.
+// A shortest cycle is searched in the same order, by sets of events where this has tallies, in one relation where this has two. The two
+// have only their loops in common: a trait for layer, step and best step would be longer than these.
 ghost use Rattle.std.specs.Prelude.{◌≡◌, ℕ, ◌+◌, ◌*◌, ◌<◌, ◌≤◌, max, true, not, length, is_some, IfSome, Decides, slice_index};
 ghost use Rattle.rows.specs.Row.{bit};
 ghost use Rattle.relations.specs.View.{rel};
@@ -11,10 +13,9 @@ ghost use Rattle.rounds.specs.Rounds.{IsRound, IsShortestRound};
 ghost use Rattle.rounds.specs.View.{listed, marks};
 
 use crate::kinds::{Mark, Round};
-use crate::layers::{approaches, deepen, lowest_closed, no_steps, raise};
+use crate::layers::{Steps, lowest_closed, no_steps, raise};
 use precedence::{Row, best, first_table};
-use relations::Relation;
-use rows::has;
+use rows::members;
 use settings::Setting;
 
 // A step: its mark, and the event that it leads to.
@@ -26,14 +27,16 @@ struct Step {
 
 // An event of the set with the largest entry.
 fn holder(row: &Row, set: u64, value: u8) -> usize
-    requires { (1 ≤ value) × (value ≡ most 64 (bit set) (cells row.now)) }
-    ensures { (result < 64) × ((bit set result ≡ true) × (cells row.now result ≡ value)) }
+    requires some { 1 ≤ value }
+    requires largest { value ≡ most 64 (bit set) (cells row.now) }
+    ensures room { result < 64 }
+    ensures member { bit set result ≡ true }
+    ensures entry { cells row.now result ≡ value }
 {
-    for c in 0..64 {
+    // A loop and no `find`: of a walk through a row the library has no lemma on it.
+    for c in members(set) {
         if row[c] == value {
-            if has(set, c) {
-                return c;
-            }
+            return c;
         }
     }
     unreachable()
@@ -61,18 +64,22 @@ fn onward(up: u64, down: u64, row: &Row) -> Step
 }
 
 // The round of so many steps from `start` that takes the best step each time.
-fn trace(up: &Relation, down: &Relation, start: usize, steps: usize) -> Round
-    requires { (start < 64) × ((0 < steps) × ((steps ≤ 64) × (steps + 2 ≤ 2 * tally (rel up.now) (rel down.now) steps start start))) }
-    ensures round { IsRound (rel up.now) (rel down.now) (listed result) (marks result) }
+fn trace(by: &Steps, start: usize, steps: usize) -> Round
+    requires room { start < 64 }
+    requires some { 0 < steps }
+    requires few { steps ≤ 64 }
+    requires closes { steps + 2 ≤ 2 * tally (rel by.now.period) (rel by.now.section) steps start start }
+    ensures round { IsRound (rel by.now.period) (rel by.now.section) (listed result) (marks result) }
     ensures long { length (listed result) ≡ steps }
     ensures first { slice_index (listed result) 0 ≡ start }
 {
-    let ways = approaches(up, down, start, steps);
+    let ways = by.approaches(start, steps);
     let mut events = [0; 64];
     let mut marks = [Mark::Period; 64];
     let mut at = start;
+    // by the index, since two arrays are written and the ways are read from the last to the first
     for i in 0..steps {
-        let step = onward(up.row(at), down.row(at), &ways[steps - 1 - i]);
+        let step = onward(by.period.row(at), by.section.row(at), &ways[steps - 1 - i]);
         events[i] = at as u8;
         marks[i] = step.mark;
         at = step.to;
@@ -90,17 +97,15 @@ pub fn shortest_round(x: &Setting) -> Option<Round>
     ensures found { IfSome result (λ c. IsShortestRound (scene x.now) (listed c) (marks c)) }
 {
     // the sheet of balances tells sooner than the layers that there is nothing to find
-    if let Some(_) = first_table(x) {
+    if first_table(x).is_some() {
         return None;
     }
-    let link = x.link();
-    let up = x.gp().seq(&link);
-    let down = x.rscs().seq(&link);
+    let by = Steps::of(x);
     let mut layer = no_steps();
-    for k in 0..link.events() {
-        deepen(&up, &down, &mut layer);
-        if let Some(start) = lowest_closed(&layer, k + 1) {
-            return Some(trace(&up, &down, start, k + 1));
+    for steps in 1..=x.events() {
+        by.deepen(&mut layer);
+        if let Some(start) = lowest_closed(&layer, steps) {
+            return Some(trace(&by, start, steps));
         }
     }
     None

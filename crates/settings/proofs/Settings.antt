@@ -1,21 +1,23 @@
 -- What every setting has.
-use Rattle.std.proofs.Common.{◌≡◌, ℕ, ◌^◌, ◌<◌, Bool, true, false, cond, not, ◌&&◌, eqb, sym, refl, ap, ◌∙◌, subst, ap₂, ⊎_elim, arith}
+use Rattle.std.proofs.lemmas.Bool.Decides.{nat_tests}
+use Rattle.std.proofs.Common.{◌≡◌, ℕ, ◌^◌, ◌<◌, true, false, cond, not, eqb, ap, ◌∙◌, subst, ap₂, ⊎_elim, arith}
 use mathlib.Core.Path.{fun_ext}
-use Rattle.std.proofs.lemmas.Bool.{and_right, both_ways, cases_Bool, eqb-false, ne_eqb, not-true, not_from_false}
+use Rattle.std.proofs.lemmas.Bool.{both_ways, cases_Bool, eqb-false, ne_eqb, not-true, not_from_false, false_from_ne_true}
 use Rattle.rows.specs.Row.{bit}
 use Rattle.rows.proofs.Bits.{bit_zero}
 use Rattle.rows.proofs.Words.{no_bits}
-use Rattle.relations.specs.Algebra.{Set, Rel, any, identity, inverse, opt, seq, to, image}
+use Rattle.relations.specs.Algebra.{Set, Rel, any, inverse, opt, seq, to, image}
 use Rattle.relations.specs.View.{rel, size}
 use Rattle.relations.specs.declared.kinds.Relation.{Relation}
 use Rattle.rows.proofs.Any.{any_some, any_from}
 use Rattle.relations.proofs.Ranges.{on_rel, on_more, on_either, on_identity}
-use Rattle.relations.proofs.Tables.{both_same, never}
+use Rattle.relations.proofs.Tables.{both_same}
 use Rattle.grace.specs.Scene.{Sound, Within, Contains, gp, link}
 use Rattle.grace.specs.Law.{before_unlock, from_on}
 use Rattle.grace.specs.Sheet.{Sheet}
 use Rattle.grace.specs.Deciding.{before_period, link_sheet}
 use Rattle.settings.specs.Parts.{scene_of}
+use Rattle.settings.proofs.Meeting.{covers_row}
 use Rattle.settings.specs.View.{scene}
 use Rattle.settings.specs.declared.kinds.Setting.{Setting}
 
@@ -33,7 +35,7 @@ po_within x = on_rel x.po
 
 pub from_on_within : (x : Setting) → Within (scene x).count (from_on (scene x))
 unfolding scene_of from_on opt
-from_on_within x = on_either (size x.po) (rel x.po) (identity (size x.po)) (on_rel x.po) (on_identity (size x.po))
+from_on_within x = grind (arith, nat_tests, on_either, on_rel, on_identity)
 
 -- gp as it is computed
 pub gp_is : (po prop hb strong crit : Relation) (periods : ℕ) (ahead t g : Rel) → ahead ≡ opt (size po) (rel po) → t ≡ to (rel po) (bit periods) → g ≡ seq t ahead
@@ -48,22 +50,9 @@ contains_at r s t e h = subst (λ (u : Rel). Contains r u) e h
 -- its scene is sound
 pub sound : (x : Setting) → Sound (scene x)
 unfolding scene_of
-sound x = record {
-  few = omega arith;
-  prop_within = on_more (size x.prop) _ (rel x.prop) (omega arith) (on_rel x.prop);
-  hb_within = on_more (size x.hb) _ (rel x.hb) (omega arith) (on_rel x.hb);
-  crit_within = on_more (size x.crit) _ (rel x.crit) (omega arith) (on_rel x.crit);
-  period_within = x.inside;
-  periods_fence = x.fences;
-}
+sound x = grind (arith, nat_tests, on_more, on_rel)
 
 -- ---- what the words of a period, a section and an event have
-
-and_swap : (x y : Bool) → (x && y) ≡ (y && x)
-and_swap true true = refl
-and_swap true false = refl
-and_swap false true = refl
-and_swap false false = refl
 
 -- a word that is not 0 has an event
 some_any : (w : ℕ) → w < 2 ^ 64 → not (eqb w 0) ≡ any 64 (bit w)
@@ -71,7 +60,7 @@ some_any w fits = both_same (not (eqb w 0)) (any 64 (bit w)) there back
   where
     there : not (eqb w 0) ≡ true → any 64 (bit w) ≡ true
     there h =
-        ⊎_elim (λ e. e) (λ e. absurd (eqb-false w 0 (not-true (eqb w 0) h) (no_bits 64 w fits (λ k l. never (bit w k) (λ b. both_ways _ e (any_from 64 k (bit w) l b))))))
+        ⊎_elim (λ e. e) (λ e. absurd (eqb-false w 0 (not-true (eqb w 0) h) (no_bits 64 w fits (λ k l. false_from_ne_true (bit w k) (λ b. both_ways _ e (any_from 64 k (bit w) l b))))))
         (cases_Bool (any 64 (bit w)))
 
     back : any 64 (bit w) ≡ true → not (eqb w 0) ≡ true
@@ -82,19 +71,15 @@ some_any w fits = both_same (not (eqb w 0)) (any 64 (bit w)) there back
 module _ (x : Setting) where
   pub before_period_yes : (s : ℕ) (w : Set) → w ≡ rel x.back s → (scene x).period s ≡ true → w ≡ before_period (scene x) s
   unfolding before_period scene_of inverse
-  before_period_yes s w e p = e ∙ ap (λ (r : Rel). r s) (back_is x) ∙ fun_ext λ a. sym (ap (λ (t : Bool). rel x.po a s && t) p ∙ and_true (rel x.po a s))
-    where
-      and_true : (t : Bool) → (t && true) ≡ t
-      and_true true = refl
-      and_true false = refl
+  before_period_yes s w e p = grind (arith, nat_tests)
 
   pub before_period_no : (s : ℕ) → (scene x).period s ≡ false → bit 0 ≡ before_period (scene x) s
   unfolding before_period scene_of
-  before_period_no s p = fun_ext λ a. bit_zero a ∙ sym (and_right (rel x.po a s) (bit x.periods s) p)
+  before_period_no s p = grind (arith, nat_tests, bit_zero)
 
   pub before_unlock_is : (l : ℕ) (u w : Set) → u ≡ rel x.crit l → w ≡ image (rel x.back) u → w ≡ before_unlock (scene x) l
   unfolding before_unlock scene_of image inverse
-  before_unlock_is l u w e f = f ∙ fun_ext λ a. rw (e, back_is x) (ap (any 64) (fun_ext λ k. and_swap (rel x.crit l k) (rel x.po a k)))
+  before_unlock_is l u w e f = grind (arith, nat_tests)
 
   pub from_on_is : (e : ℕ) (w : Set) → w ≡ rel x.ahead e → w ≡ from_on (scene x) e
   unfolding from_on scene_of
@@ -103,7 +88,7 @@ module _ (x : Setting) where
   -- links, as a sheet
   pub link_sheet_is : (r : Rel) (m : Sheet) → r ≡ link (scene x) (scene x).strong → m ≡ (λ a b. cond (r a b) 128 0) → m ≡ link_sheet (scene x)
   unfolding link_sheet scene_of
-  link_sheet_is r m e f = f ∙ fun_ext λ a. fun_ext λ b. ap (λ (q : Rel). cond {A = ℕ} (q a b) 128 0) e
+  link_sheet_is r m e f = grind (arith, nat_tests)
 
   -- a lock of a section: its row of unlocks is not empty
   pub lock_is : (l u : ℕ) → u < 2 ^ 64 → bit u ≡ rel x.crit l → not (eqb u 0) ≡ any 64 ((scene x).crit l)
@@ -111,8 +96,11 @@ module _ (x : Setting) where
   lock_is l u fits e = some_any u fits ∙ ap (any 64) e
 
   pub from_any_is : (s w : Set) → w ≡ image (rel x.ahead) s → w ≡ image (from_on (scene x)) s
-  from_any_is s w f = f ∙ ap (λ (r : Rel). image r s) (fun_ext λ e. from_on_is e (rel x.ahead e) refl)
+  from_any_is s w f = grind (arith, nat_tests, from_on_is)
 
   pub before_any_is : (s w : Set) → w ≡ image (rel x.back) s → w ≡ image (inverse (scene x).po) s
   unfolding scene_of
   before_any_is s w f = f ∙ ap (λ (r : Rel). image r s) (back_is x)
+
+-- what its methods answer by
+pub ruleset setting_sets = (ahead_is, from_on_is, from_any_is, before_any_is, before_unlock_is, lock_is, before_period_yes, before_period_no, covers_row)

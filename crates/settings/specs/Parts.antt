@@ -1,7 +1,7 @@
 -- The parts of a setting, and when they fit together.
-use Rattle.std.specs.Prelude.{◌≡◌, ℕ, ◌<◌, true}
+use Rattle.std.specs.Prelude.{◌≡◌, ℕ, ◌<◌, Bool, true, not, ◌&&◌}
 use Rattle.rows.specs.Row.{bit}
-use Rattle.relations.specs.Algebra.{Rel}
+use Rattle.relations.specs.Algebra.{Rel, any}
 use Rattle.relations.specs.View.{rel, size}
 use Rattle.relations.specs.declared.kinds.Relation.{Relation}
 use Rattle.grace.specs.Scene.{Scene, Contains, gp}
@@ -38,3 +38,7 @@ pub record Fit (po prop hb strong crit : Relation) (periods : ℕ) : Type 0 wher
   pub alike : Alike po prop hb strong crit
   pub inside : Inside (size po) periods
   pub fences : Contains (rel strong) (gp (scene_of po prop hb strong crit periods))
+
+-- r has each pair of s that begins at a
+unfoldable pub covers : Rel → Rel → ℕ → Bool
+covers r s a = not (any 64 (λ b. s a b && not (r a b)))

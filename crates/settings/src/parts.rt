@@ -1,4 +1,6 @@
 // A setting from its parts, and the relations that the law is written in.
+#![tactic(auto, using(crate::proofs::Settings::setting_sets), unfolding(crate::specs::Parts::scene_of))]
+
 ghost use Rattle.std.specs.Prelude.{◌≡◌, ℕ, ◌≤◌, max, is_some, IfSome, Decides};
 ghost use Rattle.rows.specs.Row.{bit};
 ghost use Rattle.relations.specs.Algebra.{any, image, inverse, union};
@@ -6,7 +8,7 @@ ghost use Rattle.relations.specs.View.{rel, size};
 ghost use Rattle.grace.specs.Scene.{Contains, gp, rscs, pb, link};
 ghost use Rattle.grace.specs.Law.{before_unlock, from_on};
 ghost use Rattle.grace.specs.Deciding.{before_period};
-ghost use Rattle.settings.specs.Parts.{scene_of, Alike, Inside, Fit};
+ghost use Rattle.settings.specs.Parts.{scene_of, Alike, Inside, Fit, covers};
 ghost use Rattle.settings.specs.View.{scene};
 
 use crate::kinds::Setting;
@@ -28,25 +30,23 @@ impl Setting {
         ensures same { IfSome result (λ x. scene x ≡ scene_of po prop hb strong crit periods) }
     {
         let ahead = po.opt();
-        if !alike(&po, &prop, &hb, &strong, &crit) {
-            return None;
+        if alike(&po, &prop, &hb, &strong, &crit)
+            && inside(po.events(), periods)
+            && contains(&strong, &po.to(periods).seq(&ahead))
+        {
+            Some(Setting {
+                po,
+                prop,
+                hb,
+                strong,
+                crit,
+                periods,
+                back: po.inverse(),
+                ahead,
+            })
+        } else {
+            None
         }
-        if !inside(po.events(), periods) {
-            return None;
-        }
-        if !contains(&strong, &po.to(periods).seq(&ahead)) {
-            return None;
-        }
-        Some(Setting {
-            po,
-            prop,
-            hb,
-            strong,
-            crit,
-            periods,
-            back: po.inverse(),
-            ahead,
-        })
     }
 
     // From each event before a grace period to the period and all after it.
@@ -184,10 +184,12 @@ fn inside(n: usize, periods: u64) -> bool
 fn contains(r: &Relation, s: &Relation) -> bool
     ensures { Decides result (Contains (rel r.now) (rel s.now)) }
 {
-    for a in 0..64 {
-        if meets(s.row(a), !r.row(a)) {
-            return false;
-        }
-    }
-    true
+    (0..64).all(|a| covers(r, s, a))
+}
+
+// Whether it has those that begin at a.
+fn covers(r: &Relation, s: &Relation, a: usize) -> bool
+    ensures { result ≡ covers (rel r.now) (rel s.now) a }
+{
+    !meets(s.row(a), !r.row(a))
 }

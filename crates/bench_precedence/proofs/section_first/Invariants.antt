@@ -1,5 +1,5 @@
 use Rattle.std.proofs.Common.{◌*◌, ◌≤◌}
 use Rattle.bench_precedence.proofs.section_first.Given as goal
 
-abbrev pub invariant-loop-l : goal.invariant-loop-l
-invariant-loop-l v = v.total ≤ 64 * v.l
+abbrev pub invariant-loop-row : goal.invariant-loop-row
+invariant-loop-row v = v.total ≤ 64 * v.row-index

@@ -1,5 +1,5 @@
-use Rattle.std.proofs.Common.{◌≡◌, ℕ, false, not, sym, ap, ◌∙◌}
-use Rattle.std.proofs.lemmas.Bool.{false≢true}
+use Rattle.std.proofs.Common.{rules}
+use Rattle.std.proofs.Common.{not, sym, ap, ◌∙◌}
 use Rattle.rows.specs.Row.{bit}
 use Rattle.rows.proofs.Bits.{bit_zero}
 use Rattle.grace.proofs.Sheets.{turns_idle}
@@ -8,17 +8,12 @@ use Rattle.precedence.proofs.Turning.{turns_when, relayed_none}
 use Rattle.precedence.proofs.balances.add_node.Goals as goal
 
 pub returns-then-relay-eq0 : goal.returns-then-relay-eq0
-returns-then-relay-eq0 c =
-    let none : (a : ℕ) → bit c.args.relay.now.into a ≡ false = λ a. ap (λ (n : ℕ). bit n a) c.if-relay-eq0.true ∙ bit_zero a in
-    record {
-      calm = sym (ap not (turns_idle (sheet c.args.m.now) (bit c.args.relay.now.into) (bit c.args.relay.now.out) c.args.relay.now.periods c.args.relay.now.sections c.requires.one_period none));
-      more = λ _. relayed_none (sheet c.args.m.now) (bit c.args.relay.now.into) (bit c.args.relay.now.out) c.args.relay.now.periods c.args.relay.now.sections none;
-    }
+returns-then-relay-eq0 c = search (rules, bit_zero, turns_idle, relayed_none)
 
 pub returns-then-meets : goal.returns-then-meets
 returns-then-meets c =
     let e = turns_when (sheet c.args.m.now) (bit c.args.relay.now.into) (bit c.args.relay.now.out) (bit c.closing.result) _ _ _ c.reaches-reach.ensures c.closing.ensures in
-    record { calm = sym (ap not (sym e ∙ sym c.meets.ensures ∙ c.if-meets.true)); more = λ z. absurd (false≢true z) }
+    record { calm = sym (ap not (sym e ∙ sym c.meets.ensures ∙ c.if-meets.true)); more = tt }
 
 pub add_relay-requires : goal.add_relay-requires
 add_relay-requires c =
@@ -28,4 +23,4 @@ add_relay-requires c =
 pub returns : goal.returns
 returns c =
     let e = turns_when (sheet c.args.m.now) (bit c.args.relay.now.into) (bit c.args.relay.now.out) (bit c.closing.result) _ _ _ c.reaches-reach.ensures c.closing.ensures in
-    record { calm = sym (ap not (sym e ∙ sym c.meets.ensures ∙ c.if-meets.false)); more = λ _. c.add_relay.ensures }
+    record { calm = sym (ap not (sym e ∙ sym c.meets.ensures ∙ c.if-meets.false)); more = c.add_relay.ensures }

@@ -1,10 +1,11 @@
+use Rattle.std.proofs.Common.{rules}
 use Rattle.std.proofs.Common.{ℕ, ◌≤◌, max, sym, ap, ◌∙◌, subst, ap₂, arith}
 use mathlib.Core.Path.{fun_ext}
 use Rattle.rows.specs.Row.{bit}
 use Rattle.grace.specs.Sheet.{joined}
 use Rattle.precedence.specs.Rows.{cells}
 use Rattle.precedence.proofs.Cells.{cell_at}
-use Rattle.precedence.proofs.Joining.{rowed_none, rowed_more, rowed_skip, rowed_here, rowed_all, relayed_row, relayed_still, relayed_byte, relayed_far}
+use Rattle.precedence.proofs.Joining.{rowed_none, rowed_more, rowed_here, rowed_all, relayed_row, relayed_still, relayed_byte, relayed_far}
 use Rattle.precedence.proofs.balances.add_relay.Goals as goal
 use Rattle.precedence.proofs.balances.add_relay.Goals.{then-reach-a-ne0, else-reach-a-ne0}
 
@@ -27,10 +28,11 @@ loop-a-preserved c = elim c.if-reach-a-ne0.branch [
       ap₂ max (ap (λ (f : ℕ → ℕ). f b) (rowed_here _ _ _ _ c.loop-a.invariant))
       (ap (λ (n : ℕ). joined c.args.relay.now.periods c.args.relay.now.sections n (cells c.onward-on.result b)) (sym (cell_at c.args.reach.now c.loop-a.a (omega arith)))))))
   | else-reach-a-ne0 w ↦
-      (rowed_skip _ _ _ _ _ w.m-is c.loop-a.invariant
-      (relayed_still c.args.m.now _ _ _ _ (cells c.args.reach.now) (cells c.onward-on.result) c.requires.reached c.onward-on.ensures c.loop-a.a
+      (rowed_more _ _ _ _ _ _ w.m-is (omega arith) c.loop-a.invariant
+      (rowed_here _ _ _ _ c.loop-a.invariant
+      ∙ relayed_still c.args.m.now _ _ _ _ (cells c.args.reach.now) (cells c.onward-on.result) c.requires.reached c.onward-on.ensures c.loop-a.a
       (cell_at c.args.reach.now c.loop-a.a (omega arith) ∙ w.if-reach-a-ne0.false)))
 ]
 
 pub returns : goal.returns
-returns c = rowed_all _ _ _ _ (omega arith) c.loop-a.invariant (λ a b l. relayed_far c.args.m.now _ _ _ _ a b (omega arith) l)
+returns c = search (rules, rowed_all, relayed_far)

@@ -1,4 +1,5 @@
-use Rattle.std.proofs.Common.{ℕ, ◌≤◌, max, sym, ap, ◌∙◌, subst, ap₂, arith}
+use Rattle.std.proofs.Common.{rules}
+use Rattle.std.proofs.Common.{ℕ, ◌≤◌, subst, arith}
 use Rattle.grace.specs.Sheet.{joined}
 use Rattle.precedence.proofs.Cells.{cell_at, cell_far, upto_none, upto_more, upto_here, upto_all}
 use Rattle.precedence.proofs.Joining.{joined_second}
@@ -13,12 +14,7 @@ join-requires c =
     (cell_at c.args.on.now c.loop-b.b (omega arith)) (c.requires c.loop-b.b)
 
 pub loop-b-preserved : goal.loop-b-preserved
-loop-b-preserved c =
-    upto_more _ _ _ _ _ (omega arith) c.loop-b.invariant
-    (c.max.ensures ∙ ap₂ max (upto_here _ _ _ _ (omega arith) c.loop-b.invariant)
-    (c.join.ensures ∙ ap (joined c.args.relay.now.periods c.args.relay.now.sections c.args.reach) (sym (cell_at c.args.on.now c.loop-b.b (omega arith)))))
+loop-b-preserved c = search (rules, upto_more, upto_here, cell_at)
 
 pub returns : goal.returns
-returns c =
-    upto_all _ _ _ _ (omega arith) c.loop-b.invariant
-    (λ b l. omega (arith, cell_far c.args.row.now b l, joined_second c.args.relay.now.periods c.args.relay.now.sections c.args.reach _ (cell_far c.args.on.now b l)))
+returns c = search (rules, upto_all, cell_far, joined_second)

@@ -1,7 +1,7 @@
-use Rattle.std.proofs.Common.{cond, replicate}
+use Rattle.std.proofs.Common.{◌≡◌, ℕ, ◌<◌, [], cond, get_or}
 use Rattle.relations.specs.View.{rel}
-use Rattle.precedence.proofs.Joining.{Rowed}
+use Rattle.precedence.specs.Rows.{cells}
 use Rattle.precedence.proofs.balances.links.Given as goal
 
 abbrev pub invariant-loop-a : goal.invariant-loop-a
-invariant-loop-a l = Rowed l.m (replicate 64 (replicate 64 0)) l.a (λ a b. cond (rel l.link a b) 128 0)
+invariant-loop-a l = (k : ℕ) → k < l.a → cells (get_or l.row-items k []) ≡ (λ b. cond (rel l.link k b) 128 0)

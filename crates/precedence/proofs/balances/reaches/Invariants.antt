@@ -6,4 +6,4 @@ use Rattle.precedence.proofs.Cells.{Upto}
 use Rattle.precedence.proofs.balances.reaches.Given as goal
 
 abbrev pub invariant-loop-d : goal.invariant-loop-d
-invariant-loop-d l = Upto l.all (replicate 64 0) l.d (λ d. most 64 (bit l.into) (sheet l.m d))
+invariant-loop-d l = Upto l.entry-items (replicate 64 0) l.d (λ d. most 64 (bit l.into) (sheet l.m d))

@@ -1,3 +1,4 @@
+use Rattle.std.proofs.Common.{rules}
 use Rattle.std.proofs.Common.{sym, ◌∙◌}
 use Rattle.rows.specs.Row.{bit}
 use Rattle.settings.specs.View.{scene}
@@ -7,10 +8,7 @@ use Rattle.precedence.proofs.Tabling.{empty_row, same_sheet, row_is, row_more, r
 use Rattle.precedence.proofs.deciding.add_row.Goals as goal
 
 pub returns-then-not-is_lock : goal.returns-then-not-is_lock
-returns-then-not-is_lock c =
-    let x = c.args.x.now in
-    let none = sym c.is_lock.ensures ∙ c.if-not-is_lock.true in
-    record { row = empty_row (scene x) (sound x) c.args.l none; more = same_sheet (scene x) (sound x) c.args.l none (sheet c.args.m.now) c.requires.rows_before }
+returns-then-not-is_lock c = search (rules, empty_row, sound, same_sheet)
 
 pub add_relay-requires : goal.add_relay-requires
 add_relay-requires c =

@@ -1,4 +1,5 @@
-use Rattle.std.proofs.Common.{◌≡◌, false, sym, refl, ◌∙◌, subst}
+use Rattle.std.proofs.Common.{rules}
+use Rattle.std.proofs.Common.{◌≡◌, false, is_some, sym, refl, ap, ◌∙◌, subst}
 use Rattle.std.proofs.lemmas.Bool.{not-true, not-false, false≢true}
 use Rattle.relations.specs.View.{rel}
 use Rattle.grace.specs.Law.{Table}
@@ -9,42 +10,46 @@ use Rattle.grace.proofs.Stages.{rounds_none}
 use Rattle.precedence.specs.Rows.{sheet}
 use Rattle.settings.specs.View.{scene}
 use Rattle.settings.proofs.Settings.{sound, link_sheet_is}
+use Rattle.precedence.proofs.Climbing.{period_start, section_start, period_stairs_fit, section_stairs_fit}
 use Rattle.precedence.proofs.Tabling.{no_rounds, period_breaks, section_breaks}
 use Rattle.precedence.proofs.deciding.first_table.Goals as goal
 
-pub add_periods-requires : goal.add_periods-requires
-add_periods-requires c = link_sheet_is c.args.x.now (rel c.link.result) (sheet c.links-m.result) c.link.ensures.pairs c.links-m.ensures
+pub add_all-requires-clause-start : goal.add_all-requires-clause-start
+add_all-requires-clause-start c =
+    link_sheet_is c.args.x.now (rel c.link.result) (sheet c.links-m.result) c.link.ensures.pairs c.links-m.ensures ∙ period_start (scene c.args.x.now)
 
-pub returns-then-not-add_periods : goal.returns-then-not-add_periods
-returns-then-not-add_periods c = record {
-  rule = (λ e. absurd (false≢true e), λ rcu. absurd (period_breaks (scene c.args.x.now) (sound c.args.x.now) (not-false _ (sym c.add_periods.ensures.calm ∙ c.if-not-add_periods.true)) rcu));
-  first = tt;
-  words = tt;
-}
+pub add_all-requires-clause-fits : goal.add_all-requires-clause-fits
+add_all-requires-clause-fits c = period_stairs_fit (scene c.args.x.now) (sound c.args.x.now)
 
-pub add_sections-requires : goal.add_sections-requires
-add_sections-requires c = record { after_periods = c.add_periods.ensures.more c.if-not-add_periods.false; calm = not-true _ (sym c.add_periods.ensures.calm ∙ c.if-not-add_periods.false) }
+pub returns-in_err-add_all-clause-rule : goal.returns-in_err-add_all-clause-rule
+returns-in_err-add_all-clause-rule c =
+    let turned = not-false _ (sym c.in_err-add_all.ensures.calm) in (
+      λ e. absurd (false≢true (sym (ap is_some c.from_residual.ensures) ∙ e)),
+      λ rcu. absurd (period_breaks (scene c.args.x.now) (sound c.args.x.now) turned rcu),
+    )
 
-pub returns-then-not-add_sections : goal.returns-then-not-add_sections
-returns-then-not-add_sections c = record {
-  rule = (λ e. absurd (false≢true e), λ rcu. absurd (section_breaks (scene c.args.x.now) (sound c.args.x.now) (not-false _ (sym c.add_sections.ensures.calm ∙ c.if-not-add_sections.true)) rcu));
-  first = tt;
-  words = tt;
-}
+pub add_all-requires-2-clause-start : goal.add_all-requires-2-clause-start
+add_all-requires-2-clause-start c = search (rules, section_start)
 
-pub all_rows-requires : goal.all_rows-requires
-all_rows-requires c = record {
-  after_sections = c.add_sections.ensures.more c.if-not-add_sections.false;
-  no_round = no_rounds (scene c.args.x.now) (not-true _ (sym c.add_periods.ensures.calm ∙ c.if-not-add_periods.false))
-      (not-true _ (sym c.add_sections.ensures.calm ∙ c.if-not-add_sections.false));
-}
+pub add_all-requires-2-clause-fits : goal.add_all-requires-2-clause-fits
+add_all-requires-2-clause-fits c = search (rules, section_stairs_fit, sound)
+
+pub returns-in_err-add_all-2-clause-rule : goal.returns-in_err-add_all-2-clause-rule
+returns-in_err-add_all-2-clause-rule c =
+    let turned = not-false _ (sym c.in_err-add_all-2.ensures.calm) in (
+      λ e. absurd (false≢true (sym (ap is_some c.from_residual-in_err-add_all-2.ensures) ∙ e)),
+      λ rcu. absurd (section_breaks (scene c.args.x.now) (sound c.args.x.now) turned rcu),
+    )
+
+pub all_rows-requires-clause-no_round : goal.all_rows-requires-clause-no_round
+all_rows-requires-clause-no_round c = search (rules, no_rounds)
 
 pub returns : goal.returns
 returns c =
     let x = c.args.x.now in
     let none : rounds (scene x) ≡ false =
-    no_rounds (scene x) (not-true _ (sym c.add_periods.ensures.calm ∙ c.if-not-add_periods.false))
-    (not-true _ (sym c.add_sections.ensures.calm ∙ c.if-not-add_sections.false)) in
+    no_rounds (scene x) (not-true _ (sym c.in_ok-add_all.ensures.calm))
+    (not-true _ (sym c.in_ok-add_all-2.ensures.calm)) in
     let rcu = rounds_none (scene x) (sound x) none in
     record {
       rule = (λ _. rcu, λ _. refl);

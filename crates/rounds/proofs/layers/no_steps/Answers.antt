@@ -1,12 +1,7 @@
-use Rattle.std.proofs.Common.{replicate, refl, arith}
-use Rattle.precedence.proofs.Joining.{rowed_none, rowed_more}
+use Rattle.std.proofs.Common.{[], rules}
+use Rattle.precedence.specs.Rows.{sheet}
 use Rattle.rounds.proofs.layers.no_steps.Goals as goal
 
-pub loop-b-init : goal.loop-b-init
-loop-b-init c = rowed_none (replicate 64 (replicate 64 0)) _ refl
-
-pub loop-b-preserved : goal.loop-b-preserved
-loop-b-preserved c = rowed_more _ _ _ _ _ _ refl (omega arith) c.loop-b.invariant c.at_end.ensures
-
 pub returns : goal.returns
-returns c = λ b l. c.loop-b.invariant.front b (omega arith)
+unfolding sheet
+returns c = λ b l. let h = (c.from_fn.ensures.items.at b [] l).2.met in search rules

@@ -9,26 +9,26 @@ use Rattle.rounds.proofs.search.trace.Goals as goal
 
 pub loop-i-init : goal.loop-i-init
 loop-i-init c =
-    trail_first (rel c.args.up.now) (rel c.args.down.now) (replicate 64 0) (replicate 64 Period) c.args.steps c.args.start refl refl c.requires.0
-    (omega (arith, c.requires.1.1.1))
+    trail_first (rel c.args.by.now.period) (rel c.args.by.now.section) (replicate 64 0) (replicate 64 Period) c.args.steps c.args.start refl refl c.requires.room
+    (omega (arith, c.requires.closes))
 
 pub onward-step-requires : goal.onward-step-requires
 unfolding sheet
 onward-step-requires c =
-    let way = c.approaches-ways.ensures (c.args.steps - 1 - c.loop-i.i) (omega arith) in record { rows_fit = (λ b. subst (λ (f : ℕ → ℕ). f b < 255) (sym way) (tally_byte (rel c.args.up.now) (rel c.args.down.now) (c.args.steps - 1 - c.loop-i.i) c.args.start b (omega (arith, c.requires.1.1.0)))); some_way = trail_goes _ _ _ _ _ _ _ _ (omega arith) c.loop-i.invariant _ _ _ c.row.ensures c.row-in-loop-i.ensures way }
+    let way = c.approaches-ways.ensures (c.args.steps - 1 - c.loop-i.i) (omega arith) in record { rows_fit = (λ b. subst (λ (f : ℕ → ℕ). f b < 255) (sym way) (tally_byte (rel c.args.by.now.period) (rel c.args.by.now.section) (c.args.steps - 1 - c.loop-i.i) c.args.start b (omega (arith, c.requires.few)))); some_way = trail_goes _ _ _ _ _ _ _ _ (omega arith) c.loop-i.invariant _ _ _ c.row.ensures c.row-in-loop-i.ensures way }
 
 pub loop-i-preserved : goal.loop-i-preserved
 unfolding sheet
 loop-i-preserved c =
     let way = c.approaches-ways.ensures (c.args.steps - 1 - c.loop-i.i) (omega arith) in
-    trail_more _ _ _ _ _ _ _ _ (omega arith) c.loop-i.invariant _ _ _ c.row.ensures c.row-in-loop-i.ensures way _ _ c.requires.1.1.0 c.onward-step.ensures
+    trail_more _ _ _ _ _ _ _ _ (omega arith) c.loop-i.invariant _ _ _ c.row.ensures c.row-in-loop-i.ensures way _ _ c.requires.few c.onward-step.ensures
 
 pub returns : goal.returns
 unfolding listed marks
 returns c =
     let end : c.loop-i.i ≡ c.args.steps = omega arith in
     record {
-      round = trail_round _ _ _ _ _ _ _ _ c.requires.1.0 c.requires.1.1.0 end c.loop-i.invariant c.requires.1.1.1;
-      long = trail_size _ _ _ _ _ _ _ _ c.requires.1.0 c.requires.1.1.0 end c.loop-i.invariant c.requires.1.1.1;
-      first = trail_first_event _ _ _ _ _ _ _ _ c.requires.1.0 c.requires.1.1.0 end c.loop-i.invariant c.requires.1.1.1;
+      round = trail_round _ _ _ _ _ _ _ _ c.requires.some c.requires.few end c.loop-i.invariant c.requires.closes;
+      long = trail_size _ _ _ _ _ _ _ _ c.requires.some c.requires.few end c.loop-i.invariant c.requires.closes;
+      first = trail_first_event _ _ _ _ _ _ _ _ c.requires.some c.requires.few end c.loop-i.invariant c.requires.closes;
     }

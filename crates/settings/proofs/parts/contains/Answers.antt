@@ -1,24 +1,17 @@
-use Rattle.std.proofs.Common.{◌≡◌, ℕ, true, sym, refl, subst, ⊎_elim, arith}
-use Rattle.std.proofs.lemmas.Bool.{cases_eq, both_ways, false≢true}
+use Rattle.std.proofs.Common.{◌≡◌, true, false, refl, arith, rules}
+use Rattle.std.proofs.lemmas.Iterator.{cases_from_all, YieldsList-from_range}
+use borrow.Author.Tests.{tests}
 use Rattle.relations.specs.View.{rel}
 use Rattle.relations.proofs.Ranges.{on_all}
-use Rattle.settings.proofs.Meeting.{none_lies, lies_none}
+use Rattle.settings.specs.Parts.{covers}
+use Rattle.settings.proofs.Meeting.{all_decides, covered, covers_from}
 use Rattle.settings.proofs.parts.contains.Goals as goal
 
-pub loop-a-preserved : goal.loop-a-preserved
-loop-a-preserved c a b l e =
-    ⊎_elim
-    (λ z. subst (λ (x : ℕ). rel c.args.r.now x b ≡ true) (sym z)
-    (none_lies _ _ (rel c.args.s.now c.loop-a.a) (rel c.args.r.now c.loop-a.a) _ (omega arith) (omega arith) c.row.ensures c.row-in-loop-a.ensures c.meets.ensures
-    c.if-meets.false b (subst (λ (x : ℕ). rel c.args.s.now x b ≡ true) z e)))
-    (λ z. c.loop-a.invariant a b (omega arith) e) (cases_eq a c.loop-a.a)
-
-pub returns-then-meets : goal.returns-then-meets
-returns-then-meets c = (
-  λ e. absurd (false≢true e),
-  λ all. absurd (both_ways _ (lies_none _ _ (rel c.args.s.now c.loop-a.a) (rel c.args.r.now c.loop-a.a) _ (omega arith) c.row.ensures c.row-in-loop-a.ensures
-      c.meets.ensures (all c.loop-a.a)) c.if-meets.true),
-)
-
 pub returns : goal.returns
-returns c = (λ _ a b e. c.loop-a.invariant a b (omega (arith, (on_all c.args.s.now a b e).0)) e, λ _. refl)
+returns c =
+    let r = rel c.args.r.now in
+    let s = rel c.args.s.now in
+    let all = all_decides _ 64 (covers r s)
+    (cases_from_all _ _ _ (λ a. covers r s a ≡ true) (λ a. covers r s a ≡ false) c.all.ensures.ran (YieldsList-from_range 0 64 64 refl refl)
+    (λ x q k. search (rules, tests)) (λ x q k. search (rules, tests))) in
+    (λ h a b e. let on = on_all c.args.s.now a b e in covered r s a b (all.0 h a (omega arith)) (omega arith) e, λ within. all.1 (λ a l. covers_from r s a (within a)))

@@ -1,6 +1,0 @@
-use Rattle.settings.specs.Parts.{scene_of}
-use Rattle.settings.proofs.kinds.Setting.events.Goals as goal
-
-pub returns : goal.returns
-unfolding scene_of
-returns c = c.events.ensures
