@@ -1,7 +1,8 @@
 -- The causes of a fault and the layers of the bench, with their numbers.
-use Rattle.std.specs.Prelude.{ℕ}
+use Rattle.std.specs.Prelude.{ℕ, List, ◌++◌, codes, decimal}
 use Rattle.executions.specs.declared.faults.Cause.{Cause}
 use Rattle.executions.specs.declared.faults.Cause.TheVariants.{TooShort, TooManyEvents, OutOfRange, NoSuchEvent, NoSuchRelation, DoesNotFit, OverLimit, NoSuchTie, ReadWithoutRf, InitialWrites, CoherenceNotTotal, LocksNotPaired, LineForm, LineOrder, BufferTooShort}
+use Rattle.executions.specs.declared.faults.Fault.{Fault}
 use Rattle.executions.specs.declared.faults.Layer.{Layer}
 use Rattle.executions.specs.declared.faults.Layer.TheVariants.{Entry, Check, Text}
 
@@ -28,3 +29,7 @@ abbrev pub layer_number : Layer → ℕ
 layer_number Entry = 1
 layer_number Check = 2
 layer_number Text = 3
+
+-- a fault in words
+abbrev pub fault_told : Fault → List ℕ
+fault_told f = codes "number " ++ decimal (cause_number f.cause) ++ codes ", layer " ++ decimal (layer_number f.layer) ++ codes ", place " ++ decimal f.place

@@ -1,6 +1,7 @@
 // Events, as they stand in the event table.
 ghost use Rattle.std.specs.Prelude.{◌≡◌};
 ghost use Rattle.executions.specs.Events.{is, is_read, is_write, in_program, in_range};
+ghost use Rattle.executions.specs.Sorts.{sort_number};
 
 use crate::sorts::Sort;
 
@@ -9,7 +10,7 @@ use crate::sorts::Sort;
 pub struct Event {
     // 0 for the initial writes, 1 to 8 for the threads of the program.
     pub thread: u8,
-    // The number of a `Sort`.
+    // The number of a `Sort`, as the caller wrote it: it may name none.
     pub sort: u8,
     // 1 to 16 for what a read or write accesses, 0 for a fence.
     pub place: u8,
@@ -23,12 +24,24 @@ impl Event {
         place: 0,
     };
 
+    // The record of an event of a sort.
+    pub fn of(thread: u8, sort: Sort, place: u8) -> Event
+        ensures { result ≡ record { thread = thread; sort = sort_number sort; place = place } }
+    {
+        Event {
+            thread,
+            sort: sort.number(),
+            place,
+        }
+    }
+
     pub fn is(&self, sort: Sort) -> bool
         ensures { result ≡ is sort self.now }
     {
         self.sort == sort.number()
     }
 
+    // Reads and writes are told by two sorts each: one function for both would have to be handed the sorts.
     pub fn is_read(&self) -> bool
         ensures { result ≡ is_read self.now }
     {
@@ -45,7 +58,7 @@ impl Event {
     pub fn in_program(&self) -> bool
         ensures { result ≡ in_program self.now }
     {
-        1 <= self.thread && self.thread <= 8
+        matches!(self.thread, 1..=8)
     }
 
     // Whether the three bytes are an event.
@@ -54,7 +67,7 @@ impl Event {
     {
         if self.is_read() || self.is_write() {
             let initial = self.is(Sort::WriteOnce) && self.thread == 0;
-            1 <= self.place && self.place <= 16 && (self.in_program() || initial)
+            matches!(self.place, 1..=16) && (self.in_program() || initial)
         } else {
             let fence = Sort::Rmb.number() <= self.sort && self.sort <= Sort::Blank.number();
             fence && self.place == 0 && self.in_program()

@@ -1,6 +1,8 @@
 // How the bench declines: a fault says what is wrong, which part of the bench found it, and where.
-ghost use Rattle.std.specs.Prelude.{◌≡◌};
-ghost use Rattle.executions.specs.Faults.{cause_number, layer_number};
+ghost use Rattle.std.specs.Prelude.{◌≡◌, Some};
+ghost use Rattle.executions.specs.Faults.{cause_number, layer_number, fault_told};
+
+use std::fmt;
 
 // What is wrong.
 #[derive(Clone, Copy, PartialEq, Eq, Debug)]
@@ -45,18 +47,40 @@ pub struct Fault {
     pub place: u32,
 }
 
+impl Layer {
+    // A fault that this layer found.
+    pub fn fault(self, cause: Cause, place: u32) -> Fault
+        ensures { result ≡ record { cause = cause; layer = self; place = place } }
+    {
+        Fault {
+            cause,
+            layer: self,
+            place,
+        }
+    }
+}
+
 impl Fault {
-    // The number of its cause.
+    // The published number of its cause.
     pub fn number(&self) -> u8
         ensures { result ≡ cause_number self.now.cause }
     {
         self.cause as u8
     }
 
-    // The number of its layer.
+    // The published number of its layer.
     pub fn layer_number(&self) -> u8
         ensures { result ≡ layer_number self.now.layer }
     {
         self.layer as u8
+    }
+}
+
+impl fmt::Display for Fault {
+    ghost output = { λ fault. Some (fault_told fault) };
+
+    fn fmt<W: fmt::Write>(&self, f: &mut fmt::Formatter<W>) -> fmt::Result {
+        let (number, layer, place) = (self.number(), self.layer_number(), self.place);
+        write!(f, "number {number}, layer {layer}, place {place}")
     }
 }

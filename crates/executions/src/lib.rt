@@ -8,5 +8,5 @@ pub mod ties;
 
 pub use events::Event;
 pub use faults::{Cause, Fault, Layer};
-pub use sorts::Sort;
-pub use ties::Relation;
+pub use sorts::{Sort, UnknownSort};
+pub use ties::{Relation, UnknownRelation};

@@ -1,18 +1,18 @@
 -- What is copied from a source, event by event and row by row.
-use Rattle.std.proofs.Common.{◌≡◌, ℕ, ◌+◌, ◌-◌, ◌*◌, ◌<◌, ◌≤◌, Bool, true, false, ◌&&◌, ltb, List, [], ◌∷◌, ◌++◌, length, get_or, take, set, Some, None, Option, unwrap_or, sym, refl, ap, ◌∙◌, subst, ap₂, ⊎_elim, arith}
+use Rattle.std.proofs.Common.{◌≡◌, ℕ, zero, suc, ◌+◌, ◌-◌, ◌*◌, ◌<◌, ◌≤◌, Bool, true, false, ◌&&◌, ltb, List, [], ◌∷◌, ◌++◌, length, get_or, take, set, Some, None, Option, unwrap_or, sym, refl, ap, ◌∙◌, subst, ap₂, ⊎_elim, arith}
 use mathlib.Core.Path.{fun_ext}
 use Rattle.std.specs.List.{slice_get}
-use Rattle.std.proofs.lemmas.List.{length-take-le, take_more, take_more_set, take_all, get_or-set_same, get_or-set_other}
+use Rattle.std.proofs.lemmas.List.{length-take-le, take_more, take_more_set, take_all, get_or-set_same, get_or-set_other, get_or-take, get_or_append_left, get_or-append_right}
 use Rattle.std.proofs.lemmas.Option.{slice_get-get_or}
 use Rattle.std.proofs.lemmas.Bool.{cases_eq, cases_lt, le-ltb}
 use Rattle.rows.specs.Row.{Set, bit}
 use Rattle.executions.specs.declared.events.Event.{Event}
 use Rattle.executions.specs.Execution.{Execution, Ties, count, unused}
 use Rattle.executions.specs.declared.ties.Relation.{Relation}
-use Rattle.executions.specs.declared.ties.Relation.TheVariants.{Rf, Co, Addr, Data, Ctrl, Rmw}
-use Rattle.executions.specs.Ties.{relation_number, relation_of}
+use Rattle.executions.specs.declared.ties.Relation.TheVariants.{Rf}
+use Rattle.executions.specs.Ties.{relation_number, relations, relation_of}
 use Rattle.executions.specs.Words.{word_at}
-use Rattle.executions.proofs.Words.{number_range}
+use Rattle.executions.proofs.Words.{number_range, relation_found}
 use Rattle.sources.specs.Source.{bounded, targets}
 use Rattle.sources.specs.declared.kinds.Snapshot.{Snapshot}
 use Rattle.sources.specs.Snapshot.{RowsCopied, execution}
@@ -31,21 +31,26 @@ copied_all es xs i n p q before =
     subst (λ (k : ℕ). take k es ≡ take k xs) p before ∙ take_all n xs (subst (λ (k : ℕ). k ≤ n) q (omega arith))
 
 -- one row more
-pub row_more : (ws : List ℕ) (x : Execution) (k a w : ℕ) → 64 * k + a < length ws
-    → ((b : ℕ) → b < a → bit (get_or ws (64 * k + b) 0) ≡ targets x (k + 1) b) → bit w ≡ targets x (k + 1) a
-    → (b : ℕ) → b < a + 1 → bit (get_or (set ws (64 * k + a) w) (64 * k + b) 0) ≡ targets x (k + 1) b
-row_more ws x k a w h before here b l = ⊎_elim same other (cases_eq b a)
+pub row_more : (rows : List ℕ) (x : Execution) (number a w : ℕ) → a < length rows
+    → ((b : ℕ) → b < a → bit (get_or rows b 0) ≡ targets x number b) → bit w ≡ targets x number a
+    → (b : ℕ) → b < a + 1 → bit (get_or (set rows a w) b 0) ≡ targets x number b
+row_more rows x number a w h before here b l = ⊎_elim same other (cases_eq b a)
   where
-    same : b ≡ a → bit (get_or (set ws (64 * k + a) w) (64 * k + b) 0) ≡ targets x (k + 1) b
-    same e = rw (e, get_or-set_same ws (64 * k + a) w 0 h) here
+    same : b ≡ a → bit (get_or (set rows a w) b 0) ≡ targets x number b
+    same e = rw (e, get_or-set_same rows a w 0 h) here
 
-    other : (b ≡ a → ⊥) → bit (get_or (set ws (64 * k + a) w) (64 * k + b) 0) ≡ targets x (k + 1) b
-    other n = ap bit (get_or-set_other ws (64 * k + a) (64 * k + b) w 0 (λ e. n (omega arith))) ∙ before b (omega arith)
+    other : (b ≡ a → ⊥) → bit (get_or (set rows a w) b 0) ≡ targets x number b
+    other n = ap bit (get_or-set_other rows a b w 0 n) ∙ before b (omega arith)
 
--- the rows of the relations before stay
-pub rows_kept : (ws vs : List ℕ) (k a w : ℕ) → ((i : ℕ) → i < 64 * k → get_or ws i 0 ≡ get_or vs i 0)
-    → (i : ℕ) → i < 64 * k → get_or (set ws (64 * k + a) w) i 0 ≡ get_or vs i 0
-rows_kept ws vs k a w before i h = get_or-set_other ws (64 * k + a) i w 0 (λ e. omega arith) ∙ before i h
+-- the rows of a relation in their place among the words
+module _ (ws rows rest : List ℕ) (first n : ℕ) (room : first ≤ length ws) (long : length rows ≡ n) where
+  pub placed : (a i : ℕ) → a < n → i ≡ first + a → get_or (take first ws ++ (rows ++ rest)) i 0 ≡ get_or rows a 0
+  placed a i h e =
+      get_or-append_right (take first ws) (rows ++ rest) first i 0 (length-take-le first ws room) (omega arith)
+      ∙ ap (λ (k : ℕ). get_or (rows ++ rest) k 0) (omega arith) ∙ get_or_append_left rows rest 0 a (omega (arith, long))
+
+  pub placed_before : (i : ℕ) → i < first → get_or (take first ws ++ (rows ++ rest)) i 0 ≡ get_or ws i 0
+  placed_before i h = get_or_append_left (take first ws) (rows ++ rest) 0 i (omega (arith, length-take-le first ws room)) ∙ get_or-take first ws i 0 h
 
 -- one relation more
 pub relations_more : (x : Execution) (ws vs : List ℕ) (k n : ℕ) → n ≤ 64 → RowsCopied x k n ws
@@ -59,13 +64,26 @@ relations_more x ws vs k n few before here same m a h l = ⊎_elim at under (cas
     under : (m ≡ k → ⊥) → bit (get_or vs (64 * m + a) 0) ≡ targets x (m + 1) a
     under ne = ap bit (same (64 * m + a) (omega arith)) ∙ before m a (omega arith) l
 
-relation_found : (r : Relation) → relation_of (relation_number r) ≡ Some r
-relation_found Rf = refl
-relation_found Co = refl
-relation_found Addr = refl
-relation_found Data = refl
-relation_found Ctrl = refl
-relation_found Rmw = refl
+-- the relations stand in the order of their numbers
+number_at : (k : ℕ) → k < 6 → relation_number (get_or relations k Rf) ≡ k + 1
+number_at zero h = refl
+number_at (suc zero) h = refl
+number_at (suc (suc zero)) h = refl
+number_at (suc (suc (suc zero))) h = refl
+number_at (suc (suc (suc (suc zero)))) h = refl
+number_at (suc (suc (suc (suc (suc zero))))) h = refl
+number_at (suc (suc (suc (suc (suc (suc k)))))) h = absurd (omega arith)
+
+-- one relation of the list more
+pub listed_more : (x : Execution) (ws vs : List ℕ) (k n : ℕ) → k < 6 → n ≤ 64 → RowsCopied x k n ws
+    → ((a : ℕ) → a < n → bit (get_or vs (word_at (relation_number (get_or relations k Rf)) a) 0) ≡ targets x (relation_number (get_or relations k Rf)) a)
+    → ((i : ℕ) → i < word_at (relation_number (get_or relations k Rf)) 0 → get_or vs i 0 ≡ get_or ws i 0) → RowsCopied x (k + 1) n vs
+listed_more x ws vs k n six few before here same =
+    let e = number_at k six in
+    let at : relation_number (get_or relations k Rf) - 1 ≡ k = omega (arith, e) in
+    relations_more x ws vs k n few before
+    (λ a h. ap (λ (j : ℕ). bit (get_or vs (64 * j + a) 0)) (sym at) ∙ here a h ∙ ap (λ (j : ℕ). targets x j a) e)
+    (λ i h. same i (omega (arith, at)))
 
 twice : (x y : Bool) → (x && (x && y)) ≡ (x && y)
 twice true y = refl

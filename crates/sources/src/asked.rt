@@ -20,7 +20,8 @@ pub trait CaseSource {
     fn event(&self, number: usize) -> Option<Event>
         ensures { result ≡ slice_get (meaning self.now).events number };
 
-    // The events that a relation ties an event to, bit by bit; none for a relation or an event that there is not.
+    // The events that a relation ties an event to, bit by bit; none for a relation or an event that there is not. The relation is named by its
+    // number, since a caller may name one that there is not.
     fn row(&self, relation: u32, event: usize) -> u64
         ensures { bit result ≡ targets (meaning self.now) relation event };
 }

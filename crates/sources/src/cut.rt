@@ -6,6 +6,7 @@ use crate::asked::CaseSource;
 use executions::{Event, Relation};
 
 // Shows the case below without the ties out of one event in one of addr, data and ctrl. With another relation it shows the case as it is.
+// The relation is named by its number, since a caller may name one that there is not.
 #[derive(Drop)]
 pub struct Cut<S> {
     pub below: S,
@@ -38,8 +39,10 @@ impl<S> Cut<S> {
     fn is_hidden(&self, relation: u32, event: usize) -> bool
         ensures { result ≡ hides self.now.relation self.now.event relation event }
     {
-        let dependency = Relation::Addr.number() as u32 <= self.relation
-            && self.relation <= Relation::Ctrl.number() as u32;
+        let dependency = matches!(
+            Relation::try_from(self.relation),
+            Ok(Relation::Addr | Relation::Data | Relation::Ctrl)
+        );
         dependency && relation == self.relation && event == self.event
     }
 }

@@ -3,7 +3,8 @@ ghost use Rattle.std.specs.Prelude.{◌≡◌, ◌≤◌, length};
 
 use executions::Event;
 
-// A case of at most 64 events, copied from its source, so that every question is asked once however slow a source is.
+// A case of at most 64 events, copied from its source, so that every question is asked once however slow a source is. The number stands beside
+// arrays of fixed size, since nothing here allocates.
 #[derive(Drop)]
 pub struct Snapshot {
     pub(crate) count: usize,

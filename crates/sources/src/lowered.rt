@@ -6,6 +6,7 @@ use crate::asked::CaseSource;
 use executions::{Event, Sort};
 
 // Shows the case below with new sorts: for each event below 64 a sort, which is shown where it is weaker than the event's own. 0 is none.
+// The sorts are their numbers, as in an event record: a caller may give numbers that name none.
 #[derive(Drop)]
 pub struct Lowered<S> {
     pub below: S,
@@ -20,10 +21,7 @@ impl<S: CaseSource> CaseSource for Lowered<S> {
     }
 
     fn event(&self, number: usize) -> Option<Event> {
-        match self.below.event(number) {
-            Some(event) => Some(self.shown(number, event)),
-            None => None,
-        }
+        Some(self.shown(number, self.below.event(number)?))
     }
 
     fn row(&self, relation: u32, event: usize) -> u64 {
@@ -38,9 +36,8 @@ impl<S> Lowered<S> {
     {
         if number < 64 && is_weaker(self.sorts[number], event.sort) {
             Event {
-                thread: event.thread,
                 sort: self.sorts[number],
-                place: event.place,
+                ..event
             }
         } else {
             event
@@ -52,14 +49,15 @@ impl<S> Lowered<S> {
 pub fn is_weaker(new: u8, old: u8) -> bool
     ensures { result ≡ weaker new old }
 {
-    let blank = new == Sort::Blank.number();
-    let half = new == Sort::Rmb.number() || new == Sort::Wmb.number();
-    match Sort::of(old) {
-        Some(Sort::ReadAcquire) => new == Sort::ReadOnce.number(),
-        Some(Sort::WriteRelease) => new == Sort::WriteOnce.number(),
-        Some(Sort::Rmb) | Some(Sort::Wmb) | Some(Sort::RbDep) => blank,
-        Some(Sort::Mb) => blank || half,
-        Some(Sort::SyncRcu) => blank || half || new == Sort::Mb.number(),
+    let (Ok(new), Ok(old)) = (Sort::try_from(new), Sort::try_from(old)) else {
+        return false;
+    };
+    match old {
+        Sort::ReadAcquire => new == Sort::ReadOnce,
+        Sort::WriteRelease => new == Sort::WriteOnce,
+        Sort::Rmb | Sort::Wmb | Sort::RbDep => new == Sort::Blank,
+        Sort::Mb => matches!(new, Sort::Rmb | Sort::Wmb | Sort::Blank),
+        Sort::SyncRcu => matches!(new, Sort::Rmb | Sort::Wmb | Sort::Mb | Sort::Blank),
         _ => false,
     }
 }

@@ -54,48 +54,45 @@ impl Snapshot {
         ensures { bit result ≡ (execution self.now).ties relation event }
     {
         if event < self.count {
-            self.words[word_of(relation, event)]
+            self.words[relation.first_word() + event]
         } else {
             0
         }
     }
 }
 
-// The word with the targets of an event.
-fn word_of(relation: Relation, a: usize) -> usize
-    requires { a < 64 }
-    ensures { (result ≡ word_at (relation_number relation) a) × (result < 384) }
-{
-    64 * (relation.number() as usize - 1) + a
-}
-
 // The events below a count.
 fn copy_events<S: CaseSource>(source: &S, count: usize, events: &mut [Event])
-    requires { (count ≡ length (S.CaseSource.meaning source.now).events) × (count ≤ length events.old) }
+    requires all { count ≡ length (S.CaseSource.meaning source.now).events }
+    requires room { count ≤ length events.old }
     ensures { take count events.new ≡ (S.CaseSource.meaning source.now).events }
 {
-    for i in 0..count {
-        events[i] = source.event(i).unwrap_or(Event::UNUSED);
+    for (i, event) in events[..count].iter_mut().enumerate() {
+        *event = source.event(i).unwrap_or(Event::UNUSED);
     }
 }
 
 // The rows of all relations for the events below a count.
 fn copy_rows<S: CaseSource>(source: &S, count: usize, words: &mut [u64])
-    requires { (count ≤ 64) × (length words.old ≡ 384) }
+    requires few { count ≤ 64 }
+    requires room { length words.old ≡ 384 }
     ensures { RowsCopied (S.CaseSource.meaning source.now) 6 count words.new }
 {
-    for k in 0..6 {
-        copy_relation(source, k, count, words);
+    for relation in Relation::ALL {
+        copy_relation(source, relation, count, words);
     }
 }
 
-// The rows of the relation numbered k + 1.
-fn copy_relation<S: CaseSource>(source: &S, k: usize, count: usize, words: &mut [u64])
-    requires { (k < 6) × ((count ≤ 64) × (length words.old ≡ 384)) }
-    ensures copied { (a : ℕ) → a < count → bit (slice_index words.new (64 * k + a)) ≡ asked_targets (S.CaseSource.meaning source.now) (k + 1) a }
-    ensures before { (i : ℕ) → i < 64 * k → slice_index words.new i ≡ slice_index words.old i }
+// The rows of one relation.
+fn copy_relation<S: CaseSource>(source: &S, relation: Relation, count: usize, words: &mut [u64])
+    requires few { count ≤ 64 }
+    requires room { length words.old ≡ 384 }
+    ensures copied { (a : ℕ) → a < count → bit (slice_index words.new (word_at (relation_number relation) a)) ≡ asked_targets (S.CaseSource.meaning source.now) (relation_number relation) a }
+    ensures before { (i : ℕ) → i < word_at (relation_number relation) 0 → slice_index words.new i ≡ slice_index words.old i }
 {
-    for a in 0..count {
-        words[64 * k + a] = source.row(k as u32 + 1, a);
+    let first = relation.first_word();
+    let number = u32::from(relation.number());
+    for (a, word) in words[first..first + count].iter_mut().enumerate() {
+        *word = source.row(number, a);
     }
 }

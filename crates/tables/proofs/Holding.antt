@@ -1,9 +1,11 @@
 -- What the tables hold after a call, and that nothing stands past the case.
-use Rattle.std.proofs.Common.{◌≡◌, ℕ, ◌+◌, ◌<◌, ◌≤◌, Bool, true, false, cond, not, ltb, leb, List, [], ◌++◌, length, get_or, take, set, replicate, Ok, sym, refl, ap, ◌∙◌, subst, ap₂, ⊎_elim, arith}
+use Rattle.std.proofs.lemmas.Bool.Decides.{nat_tests}
+use Rattle.std.proofs.Common.{◌≡◌, ℕ, ◌+◌, ◌<◌, ◌≤◌, Bool, true, false, cond, not, List, [], ◌++◌, length, get_or, take, set, replicate, Ok, sym, refl, ap, ◌∙◌, subst, ⊎_elim, arith, Some, None}
 use mathlib.Core.Path.{fun_ext}
 use Rattle.std.proofs.lemmas.List.{take_more_set, get_or-set_other, length-take-le, get_or_append_left, get_or-replicate, length-replicate}
-use Rattle.std.proofs.lemmas.Bool.{or_parts, ltb-false, lt-leb, cases_lt}
+use Rattle.std.proofs.lemmas.Bool.{cases_lt}
 use Rattle.executions.specs.declared.events.Event.{Event}
+use Rattle.executions.specs.declared.faults.Fault.{Fault}
 use Rattle.executions.specs.declared.ties.Relation.{Relation}
 use Rattle.executions.specs.Events.{in_range}
 use Rattle.executions.specs.Execution.{unused}
@@ -14,18 +16,16 @@ use Rattle.tables.specs.Tables.{Tables, plain_of, Exact, Represents, Does}
 
 -- a call that keeps the tables exact does on exact tables what it does on any
 pub does : {A : Type 0} (step : Plain → Plain × A) (t t' : Tables) (r : A) → (plain_of t', r) ≡ step (plain_of t) → (Exact t → Exact t') → Does step t t' r
-does step t t' r e keeps = record {
-  on_any = e;
-  on_exact = λ p h. let all = e ∙ ap step h.0 in ((ap (λ q. q.0) all, keeps h.1), ap (λ q. q.1) all);
-}
-
--- a call that leaves the tables as they were
-pub leaves : {A : Type 0} (step : Plain → Plain × A) (t : Tables) (r : A) → (plain_of t, r) ≡ step (plain_of t) → Does step t t r
-leaves step t r e = does step t t r e (λ x. x)
+does step t t' r e keeps = grind (arith, nat_tests)
 
 -- tables that are not too short
 pub long : (records words : ℕ) → short records words ≡ false → (64 ≤ records) × (384 ≤ words)
-long records words e = let parts = or_parts (ltb records 64) (ltb words 384) e in (ltb-false records 64 parts.0, ltb-false words 384 parts.1)
+long records words e = grind (arith, nat_tests)
+
+-- what a test that refused nothing has shown
+pub allowed : (s : Bool) (f : Fault) → None ≡ cond s (Some f) None → s ≡ false
+allowed true f e = let z : ◌≡◌ {A = ℕ} 0 1 = cc in absurd (omega arith)
+allowed false f e = refl
 
 -- ---- open
 
@@ -33,7 +33,7 @@ cleared_word : (ws : List ℕ) (i : ℕ) → i < 384 → get_or (replicate 384 0
 cleared_word ws i h =
     get_or_append_left (replicate 384 0) ws 0 i (subst (λ (n : ℕ). i < n) (sym (length-replicate {A = ℕ} 384 0)) h) ∙ get_or-replicate 384 i 0 0 h
 
-no_ties : (ws : List ℕ) (r : Relation) (a b : ℕ) → ties_of (replicate 384 0 ++ ws) r a b ≡ false
+pub no_ties : (ws : List ℕ) (r : Relation) (a b : ℕ) → ties_of (replicate 384 0 ++ ws) r a b ≡ false
 no_ties ws r a b =
     ⊎_elim (λ h. no_word _ r a b (cleared_word ws _ (word_within r a h))) (λ h. no_event _ r a b h) (cases_lt a 64)
 
@@ -72,20 +72,11 @@ module _ (t : Tables) (e : Event) (room : t.count < 64) (n : ℕ) (s : short (le
   counted = length-take-le t.count t.records (omega (arith, records))
 
   holds : plain_of (with_record t e) ≡ entered e (plain_of t)
-  holds = ap (λ es. record { execution = record { events = es; ties = ties_of t.words }; mark = Open })
-      (take_more_set t.records t.count e (omega (arith, records)))
+  holds = grind (arith, nat_tests, take_more_set, records)
 
   stays_exact : Exact t → Exact (with_record t e)
-  stays_exact x = record {
-    other_records = λ i h k. get_or-set_other t.records t.count i e unused (λ q. omega arith) ∙ x.other_records i (omega arith) k;
-    other_words = λ r a h k. x.other_words r a (omega arith) k;
-    other_bits = λ r a b h k. ⊎_elim (λ l. x.other_bits r a b l (omega arith)) (λ g. no_word t.words r a b (x.other_words r a g (omega arith))) (cases_lt a t.count);
-  }
+  stays_exact x = grind (arith, nat_tests, get_or-set_other, records, no_word)
 
   -- an event that is entered
   pub enters : in_range e ≡ true → Does (enter_plain (length t.records) n e) t (with_record t e) (Ok t.count)
-  enters i =
-      does (enter_plain (length t.records) n e) t (with_record t e) (Ok t.count)
-      (ap₂ (λ p k. (p, Ok k)) holds (sym counted)
-      ∙ enter_ok _ (leb 64 (length (take t.count t.records))) _ _ _ _ _ s (lt-leb 64 _ (subst (λ (k : ℕ). k < 64) (sym counted) room)) i)
-      stays_exact
+  enters i = grind (arith, nat_tests, does, records, holds, counted, enter_ok, stays_exact)

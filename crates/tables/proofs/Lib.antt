@@ -1,4 +1,3 @@
-mod Holding
-mod Lists
+pub mod Holding
 mod Sourcing
 mod Tying

@@ -1,9 +1,12 @@
-// The calls that build a case.
-ghost use Rattle.std.specs.Prelude.{◌≡◌, ℕ, ◌<◌, ◌≤◌, ◌++◌, length, drop, replicate};
+// The calls that build a case. The tables are the caller's and come with each call; a relation is named by its number, since a caller may name
+// one that there is not.
+ghost use Rattle.std.specs.Prelude.{◌≡◌, ◌||◌, cond, length, Some, None};
+ghost use Rattle.std.specs.Result.{result_err};
 ghost use Rattle.rows.specs.Row.{adding, dropping};
-ghost use Rattle.executions.specs.Ties.{relation_number};
+ghost use Rattle.executions.specs.declared.faults.Cause.TheVariants.{TooShort};
+ghost use Rattle.executions.specs.declared.ties.Relation.TheVariants.{Rmw};
 ghost use Rattle.executions.specs.Words.{ties_of, word_at as word_number};
-ghost use Rattle.tables.specs.Plain.{enter_plain, tie_plain, untie_plain, named as named_plain, refusal as refusal_of, short as too_short, taken, has_rf, in_rmw};
+ghost use Rattle.tables.specs.Plain.{enter_plain, tie_plain, untie_plain, named as named_plain, short as too_short, taken, has_rf, in_rmw};
 ghost use Rattle.tables.specs.Tables.{tables, Does, Opened, Entered, Written};
 
 use crate::kinds::OpenCase;
@@ -19,11 +22,9 @@ impl OpenCase {
     pub fn open(events: &mut [Event], ties: &mut [u64]) -> Result<OpenCase, Fault>
         ensures { Opened events.old ties.old events.new ties.new result }
     {
-        if short(events.len(), ties.len()) {
-            return Err(refusal(Cause::TooShort, 0));
-        }
-        clear(events, RECORDS, Event::UNUSED);
-        clear(ties, WORDS, 0);
+        test_lengths(Layer::Entry, events.len(), ties.len())?;
+        events[..RECORDS].fill(Event::UNUSED);
+        ties[..WORDS].fill(0);
         Ok(OpenCase { count: 0 })
     }
 
@@ -37,14 +38,12 @@ impl OpenCase {
         ensures does { Does (enter_plain (length events.old) (length ties.now) event) (tables self.old events.old ties.now) (tables self.new events.new ties.now) result }
         ensures writes { Entered event (tables self.old events.old ties.now) (tables self.new events.new ties.now) result }
     {
-        if short(events.len(), ties.len()) {
-            return Err(refusal(Cause::TooShort, 0));
-        }
+        test_lengths(Layer::Entry, events.len(), ties.len())?;
         if self.count >= RECORDS {
-            return Err(refusal(Cause::TooManyEvents, 64));
+            return Err(Layer::Entry.fault(Cause::TooManyEvents, 64));
         }
         if !event.in_range() {
-            return Err(refusal(Cause::OutOfRange, self.count as u32));
+            return Err(Layer::Entry.fault(Cause::OutOfRange, self.count as u32));
         }
         let number = self.count;
         events[number] = event;
@@ -67,12 +66,12 @@ impl OpenCase {
         let known = self.named(events.len(), ties.len(), relation, first, second)?;
         let (a, b) = (first as usize, second as usize);
         if !known.fits(a, events[a], b, events[b]) {
-            return Err(refusal(Cause::DoesNotFit, first));
+            return Err(Layer::Entry.fault(Cause::DoesNotFit, first));
         }
         if is_taken(ties, self.count, known, a, b) {
-            return Err(refusal(Cause::OverLimit, second));
+            return Err(Layer::Entry.fault(Cause::OverLimit, second));
         }
-        let at = word_at(known, a);
+        let at = known.first_word() + a;
         ties[at] = rows::with(ties[at], b);
         Ok(())
     }
@@ -92,9 +91,9 @@ impl OpenCase {
         let known = self.named(events.len(), ties.len(), relation, first, second)?;
         let (a, b) = (first as usize, second as usize);
         if !is_tied(ties, known, a, b) {
-            return Err(refusal(Cause::NoSuchTie, first));
+            return Err(Layer::Entry.fault(Cause::NoSuchTie, first));
         }
-        let at = word_at(known, a);
+        let at = known.first_word() + a;
         ties[at] = rows::without(ties[at], b);
         Ok(())
     }
@@ -110,41 +109,29 @@ impl OpenCase {
     ) -> Result<Relation, Fault>
         ensures { result ≡ named_plain records words self.now.count relation first second }
     {
-        if short(records, words) {
-            return Err(refusal(Cause::TooShort, 0));
-        }
-        let Some(known) = Relation::of(relation) else {
-            return Err(refusal(Cause::NoSuchRelation, relation));
+        test_lengths(Layer::Entry, records, words)?;
+        let Ok(known) = Relation::try_from(relation) else {
+            return Err(Layer::Entry.fault(Cause::NoSuchRelation, relation));
         };
         if first as usize >= self.count {
-            return Err(refusal(Cause::NoSuchEvent, first));
+            return Err(Layer::Entry.fault(Cause::NoSuchEvent, first));
         }
         if second as usize >= self.count {
-            return Err(refusal(Cause::NoSuchEvent, second));
+            return Err(Layer::Entry.fault(Cause::NoSuchEvent, second));
         }
         Ok(known)
     }
 }
 
-// The word with the targets of event a.
-pub(crate) fn word_at(relation: Relation, a: usize) -> usize
-    requires { a < 64 }
-    ensures { (result ≡ word_number (relation_number relation) a) × (result < 384) }
-{
-    64 * (relation.number() as usize - 1) + a
-}
-
 // Whether the tables tie a to b.
 fn is_tied(ties: &[u64], relation: Relation, a: usize, b: usize) -> bool
-    requires { (384 ≤ length ties.now) × (a < 64) }
     ensures { result ≡ ties_of ties.now relation a b }
 {
-    rows::has(ties[word_at(relation, a)], b)
+    rows::has(relation.targets(ties, a), b)
 }
 
 // Whether a tie is there, or would be one too many among n events.
 fn is_taken(ties: &[u64], n: usize, relation: Relation, a: usize, b: usize) -> bool
-    requires { (384 ≤ length ties.now) × ((n ≤ 64) × ((a < 64) × (b < 64))) }
     ensures { result ≡ taken n (ties_of ties.now) relation a b }
 {
     if is_tied(ties, relation, a, b) {
@@ -159,54 +146,32 @@ fn is_taken(ties: &[u64], n: usize, relation: Relation, a: usize, b: usize) -> b
 
 // Whether some of n events has an rf tie to the read b.
 fn has_rf(ties: &[u64], n: usize, b: usize) -> bool
-    requires { (384 ≤ length ties.now) × (n ≤ 64) }
     ensures { result ≡ has_rf n (ties_of ties.now) b }
 {
-    for a in 0..n {
-        if is_tied(ties, Relation::Rf, a, b) {
-            return true;
-        }
-    }
-    false
+    (0..n).any(|a| is_tied(ties, Relation::Rf, a, b))
 }
 
 // Whether the event e stands in an rmw tie with some of n events.
 fn in_rmw(ties: &[u64], n: usize, e: usize) -> bool
-    requires { (384 ≤ length ties.now) × ((n ≤ 64) × (e < 64)) }
     ensures { result ≡ in_rmw n (ties_of ties.now) e }
 {
-    for d in 0..n {
-        if is_tied(ties, Relation::Rmw, e, d) || is_tied(ties, Relation::Rmw, d, e) {
-            return true;
-        }
-    }
-    false
+    (0..n).any(|d| is_joined(ties, e, d))
 }
 
-// Whether the tables have too few records or words.
-pub(crate) fn short(records: usize, words: usize) -> bool
-    ensures { result ≡ too_short records words }
+// Whether an rmw tie goes from e to d or back.
+fn is_joined(ties: &[u64], e: usize, d: usize) -> bool
+    ensures { result ≡ (ties_of ties.now Rmw e d || ties_of ties.now Rmw d e) }
 {
-    records < RECORDS || words < WORDS
+    is_tied(ties, Relation::Rmw, e, d) || is_tied(ties, Relation::Rmw, d, e)
 }
 
-// A refusal by one of these calls.
-fn refusal(cause: Cause, place: u32) -> Fault
-    ensures { result ≡ refusal_of cause place }
+// Refuses, for the layer of a call, tables that have too few records or words.
+pub(crate) fn test_lengths(layer: Layer, records: usize, words: usize) -> Result<(), Fault>
+    ensures { result_err result ≡ cond (too_short records words) (Some (record { cause = TooShort; layer = layer; place = 0 })) None }
 {
-    Fault {
-        cause,
-        layer: Layer::Entry,
-        place,
-    }
-}
-
-// Sets the first n elements of a table to a blank one.
-fn clear<T: Copy>(table: &mut [T], n: usize, blank: T)
-    requires { n ≤ length table.old }
-    ensures { table.new ≡ replicate n blank ++ drop n table.old }
-{
-    for i in 0..n {
-        table[i] = blank;
+    if records < RECORDS || words < WORDS {
+        Err(layer.fault(Cause::TooShort, 0))
+    } else {
+        Ok(())
     }
 }

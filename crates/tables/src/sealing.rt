@@ -1,12 +1,9 @@
 // Sealing a case, opening it again, and asking a sealed one.
-ghost use Rattle.std.specs.Prelude.{◌≡◌};
-ghost use Rattle.executions.specs.declared.faults.Cause.TheVariants.{TooShort};
-ghost use Rattle.tables.specs.Plain.{check_refusal};
 ghost use Rattle.tables.specs.Tables.{Seals, Reopens, Sources};
 
-use crate::calls::short;
+use crate::calls::test_lengths;
 use crate::kinds::{OpenCase, SealedCase, TableSource};
-use executions::{Cause, Event, Fault, Layer};
+use executions::{Event, Fault, Layer};
 use wellformed::check;
 
 impl OpenCase {
@@ -18,18 +15,17 @@ impl OpenCase {
     ) -> Result<SealedCase, (OpenCase, Fault)>
         ensures { Seals self events.now ties.now result }
     {
-        if short(events.len(), ties.len()) {
-            return Err((self, too_short()));
+        if let Err(fault) = test_lengths(Layer::Check, events.len(), ties.len()) {
+            return Err((self, fault));
         }
         let count = self.count;
-        match check(&TableSource {
+        check(&TableSource {
             count,
             events,
             ties,
-        }) {
-            Ok(_) => Ok(SealedCase { count }),
-            Err(found) => Err((self, found)),
-        }
+        })
+        .map_err(|fault| (self, fault))?;
+        Ok(SealedCase { count })
     }
 }
 
@@ -45,24 +41,11 @@ impl SealedCase {
     pub fn source<'a>(&self, events: &'a [Event], ties: &'a [u64]) -> Result<TableSource<'a>, Fault>
         ensures { Sources self.now events.now ties.now result }
     {
-        if short(events.len(), ties.len()) {
-            return Err(too_short());
-        }
+        test_lengths(Layer::Check, events.len(), ties.len())?;
         Ok(TableSource {
             count: self.count,
             events,
             ties,
         })
-    }
-}
-
-// The refusal of short tables by the calls on a whole case.
-fn too_short() -> Fault
-    ensures { result ≡ check_refusal TooShort 0 }
-{
-    Fault {
-        cause: Cause::TooShort,
-        layer: Layer::Check,
-        place: 0,
     }
 }

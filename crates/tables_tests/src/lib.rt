@@ -8,54 +8,73 @@ mod tests {
     use std::test::Fail;
     use tables::OpenCase;
 
-    fn event(thread: u8, sort: Sort, place: u8) -> Event {
-        Event {
-            thread,
-            sort: sort.number(),
-            place,
-        }
-    }
-
     fn fault(cause: Cause, place: u32) -> Fault {
-        Fault {
-            cause,
-            layer: Layer::Entry,
-            place,
-        }
+        Layer::Entry.fault(cause, place)
     }
 
-    // Enters each event in turn, and compares the answer.
-    fn try_events(
-        rt: &impl Abort,
-        case: &mut OpenCase,
-        events: &mut [Event],
-        ties: &[u64],
-        table: &[(Event, Result<usize, Fault>)],
-    ) {
-        for (e, answer) in table {
-            assert_eq!(rt; case.enter(events, ties, *e), *answer);
+    // A case with the two tables that it is built in.
+    #[derive(Drop)]
+    struct Desk {
+        case: OpenCase,
+        events: [Event; 64],
+        ties: [u64; 384],
+    }
+
+    impl Desk {
+        // A blank case.
+        fn open() -> Result<Desk, Fault> {
+            let mut events = [Event::UNUSED; 64];
+            let mut ties = [0u64; 384];
+            let case = OpenCase::open(&mut events, &mut ties)?;
+            Ok(Desk { case, events, ties })
+        }
+
+        fn enter(&mut self, event: Event) -> Result<usize, Fault> {
+            self.case.enter(&mut self.events, &self.ties, event)
+        }
+
+        // Enters each event in turn, and compares the answer.
+        fn try_events(&mut self, rt: &impl Abort, table: &[(Event, Result<usize, Fault>)]) {
+            for (event, answer) in table {
+                assert_eq!(rt; self.enter(*event), *answer);
+            }
+        }
+
+        fn enter_all(&mut self, rt: &impl Abort, all: &[Event]) {
+            for (number, event) in all.iter().enumerate() {
+                assert_eq!(rt; self.enter(*event), Ok(number));
+            }
+        }
+
+        // Ties each pair in turn, and compares the answer.
+        fn try_ties(&mut self, rt: &impl Abort, table: &[(Relation, u32, u32, Result<(), Fault>)]) {
+            for (relation, first, second, answer) in table {
+                let number = relation.number() as u32;
+                let tied = self
+                    .case
+                    .tie(&self.events, &mut self.ties, number, *first, *second);
+                assert_eq!(rt; tied, *answer);
+            }
         }
     }
 
     // The last thread and the last place enter, those past them do not, and a fence has no place.
     #[test]
     fn events_in_range(rt: HostRuntime) -> Result<(), Fail> {
-        let mut events = [Event::UNUSED; 64];
-        let mut ties = [0u64; 384];
-        let mut case = OpenCase::open(&mut events, &mut ties)?;
+        let mut desk = Desk::open()?;
         let out = Cause::OutOfRange;
         let table = [
-            (event(8, Sort::ReadOnce, 16), Ok(0)),
-            (event(9, Sort::ReadOnce, 16), Err(fault(out, 1))),
-            (event(8, Sort::ReadOnce, 17), Err(fault(out, 1))),
-            (event(1, Sort::ReadAcquire, 0), Err(fault(out, 1))),
-            (event(0, Sort::WriteOnce, 1), Ok(1)),
-            (event(0, Sort::WriteRelease, 1), Err(fault(out, 2))),
-            (event(0, Sort::ReadOnce, 1), Err(fault(out, 2))),
-            (event(0, Sort::Mb, 0), Err(fault(out, 2))),
-            (event(1, Sort::Rmb, 0), Ok(2)),
-            (event(8, Sort::Blank, 0), Ok(3)),
-            (event(1, Sort::Blank, 1), Err(fault(out, 4))),
+            (Event::of(8, Sort::ReadOnce, 16), Ok(0)),
+            (Event::of(9, Sort::ReadOnce, 16), Err(fault(out, 1))),
+            (Event::of(8, Sort::ReadOnce, 17), Err(fault(out, 1))),
+            (Event::of(1, Sort::ReadAcquire, 0), Err(fault(out, 1))),
+            (Event::of(0, Sort::WriteOnce, 1), Ok(1)),
+            (Event::of(0, Sort::WriteRelease, 1), Err(fault(out, 2))),
+            (Event::of(0, Sort::ReadOnce, 1), Err(fault(out, 2))),
+            (Event::of(0, Sort::Mb, 0), Err(fault(out, 2))),
+            (Event::of(1, Sort::Rmb, 0), Ok(2)),
+            (Event::of(8, Sort::Blank, 0), Ok(3)),
+            (Event::of(1, Sort::Blank, 1), Err(fault(out, 4))),
             (
                 Event {
                     thread: 1,
@@ -66,67 +85,29 @@ mod tests {
             ),
             (Event::UNUSED, Err(fault(out, 4))),
         ];
-        try_events(&rt, &mut case, &mut events, &ties, &table);
+        desk.try_events(&rt, &table);
         Ok(())
-    }
-
-    fn enter_all(
-        rt: &impl Abort,
-        case: &mut OpenCase,
-        events: &mut [Event],
-        ties: &[u64],
-        all: &[Event],
-    ) {
-        for (i, e) in all.iter().enumerate() {
-            assert_eq!(rt; case.enter(events, ties, *e), Ok(i));
-        }
     }
 
     #[test]
     fn sixty_four_events(rt: HostRuntime) -> Result<(), Fail> {
-        let mut events = [Event::UNUSED; 64];
-        let mut ties = [0u64; 384];
-        let mut case = OpenCase::open(&mut events, &mut ties)?;
-        let write = event(1, Sort::WriteOnce, 1);
-        enter_all(&rt, &mut case, &mut events, &ties, &[write; 64]);
-        assert_eq!(rt;
-            case.enter(&mut events, &ties, write),
-            Err(fault(Cause::TooManyEvents, 64))
-        );
-        assert_eq!(rt; case.count(), 64);
+        let mut desk = Desk::open()?;
+        let write = Event::of(1, Sort::WriteOnce, 1);
+        desk.enter_all(&rt, &[write; 64]);
+        assert_eq!(rt; desk.enter(write), Err(fault(Cause::TooManyEvents, 64)));
+        assert_eq!(rt; desk.case.count(), 64);
         Ok(())
-    }
-
-    // Ties each pair in turn, and compares the answer.
-    fn try_ties(
-        rt: &impl Abort,
-        case: &OpenCase,
-        events: &[Event],
-        ties: &mut [u64],
-        table: &[(Relation, u32, u32, Result<(), Fault>)],
-    ) {
-        for (relation, first, second, answer) in table {
-            assert_eq!(rt;
-                case.tie(events, ties, relation.number() as u32, *first, *second),
-                *answer
-            );
-        }
     }
 
     // A tie that is there, a second rf tie into a read, and a second rmw tie at an event: all by the second event.
     #[test]
     fn limits_of_ties(rt: HostRuntime) -> Result<(), Fail> {
-        let mut events = [Event::UNUSED; 64];
-        let mut ties = [0u64; 384];
-        let mut case = OpenCase::open(&mut events, &mut ties)?;
-        let read = event(1, Sort::ReadOnce, 1);
-        let write = event(1, Sort::WriteOnce, 1);
-        enter_all(
+        let mut desk = Desk::open()?;
+        let read = Event::of(1, Sort::ReadOnce, 1);
+        let write = Event::of(1, Sort::WriteOnce, 1);
+        desk.enter_all(
             &rt,
-            &mut case,
-            &mut events,
-            &ties,
-            &[event(0, Sort::WriteOnce, 1), read, read, write, write],
+            &[Event::of(0, Sort::WriteOnce, 1), read, read, write, write],
         );
         let table = [
             (Relation::Rf, 0, 1, Ok(())),
@@ -143,30 +124,25 @@ mod tests {
             (Relation::Ctrl, 1, 3, Ok(())),
             (Relation::Ctrl, 1, 4, Ok(())),
         ];
-        try_ties(&rt, &case, &events, &mut ties, &table);
+        desk.try_ties(&rt, &table);
         Ok(())
     }
 
     // What does not fit: one row or more for each relation, and the pair in program order that does.
     #[test]
     fn ties_that_fit(rt: HostRuntime) -> Result<(), Fail> {
-        let mut events = [Event::UNUSED; 64];
-        let mut ties = [0u64; 384];
-        let mut case = OpenCase::open(&mut events, &mut ties)?;
-        let read = event(1, Sort::ReadOnce, 1);
-        let fence = event(1, Sort::Mb, 0);
-        let other = event(1, Sort::WriteOnce, 2);
-        enter_all(
+        let mut desk = Desk::open()?;
+        let read = Event::of(1, Sort::ReadOnce, 1);
+        let fence = Event::of(1, Sort::Mb, 0);
+        let other = Event::of(1, Sort::WriteOnce, 2);
+        desk.enter_all(
             &rt,
-            &mut case,
-            &mut events,
-            &ties,
             &[
-                event(0, Sort::WriteOnce, 1),
+                Event::of(0, Sort::WriteOnce, 1),
                 read,
                 fence,
                 other,
-                event(2, Sort::WriteOnce, 1),
+                Event::of(2, Sort::WriteOnce, 1),
             ],
         );
         let table = [
@@ -183,14 +159,14 @@ mod tests {
             (Relation::Addr, 1, 3, Ok(())),
             (Relation::Data, 1, 3, Ok(())),
         ];
-        try_ties(&rt, &case, &events, &mut ties, &table);
+        desk.try_ties(&rt, &table);
         Ok(())
     }
 
     // Tables that are one element short are refused by every call and left as they were.
     #[test]
     fn short_tables(rt: HostRuntime) -> Result<(), Fail> {
-        let write = event(0, Sort::WriteOnce, 1);
+        let write = Event::of(0, Sort::WriteOnce, 1);
         let mut events = [Event::UNUSED; 64];
         let mut ties = [0u64; 384];
         let mut case = OpenCase::open(&mut events, &mut ties)?;
@@ -215,7 +191,7 @@ mod tests {
     // Longer tables keep what they have past the 64 records and the 384 words.
     #[test]
     fn long_tables(rt: HostRuntime) -> Result<(), Fail> {
-        let write = event(0, Sort::WriteOnce, 1);
+        let write = Event::of(0, Sort::WriteOnce, 1);
         let mut events = [write; 66];
         let mut ties = [7u64; 386];
         let mut case = OpenCase::open(&mut events, &mut ties)?;
@@ -228,12 +204,13 @@ mod tests {
         assert!(rt; ties[0] == 0 && ties[383] == 0 && ties[384] == 7 && ties[385] == 7);
         assert_eq!(rt; case.enter(&mut events, &ties, write), Ok(0));
         assert_eq!(rt;
-            case.enter(&mut events, &ties, event(1, Sort::WriteOnce, 1)),
+            case.enter(&mut events, &ties, Event::of(1, Sort::WriteOnce, 1)),
             Ok(1)
         );
-        assert_eq!(rt; case.tie(&events, &mut ties, 2, 0, 1), Ok(()));
+        let co = Relation::Co.number() as u32;
+        assert_eq!(rt; case.tie(&events, &mut ties, co, 0, 1), Ok(()));
         assert!(rt; ties[64] == 2 && ties[384] == 7 && ties[385] == 7 && events[64] == write);
-        assert_eq!(rt; case.untie(&events, &mut ties, 2, 0, 1), Ok(()));
+        assert_eq!(rt; case.untie(&events, &mut ties, co, 0, 1), Ok(()));
         assert!(rt; ties[64] == 0 && ties[384] == 7 && ties[385] == 7 && events[65] == write);
         Ok(())
     }

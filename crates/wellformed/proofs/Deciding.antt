@@ -1,9 +1,9 @@
 -- No fault comes exactly when the execution is well formed.
-use Rattle.std.proofs.Common.{◌≡◌, ℕ, ◌+◌, ◌-◌, ◌<◌, ◌≤◌, Bool, true, false, cond, not, ◌&&◌, ◌||◌, eqb, ltb, ◌⊎◌, Some, None, sym, refl, ap, subst, inl, inr, ⊎_elim, arith}
-use Rattle.std.proofs.lemmas.Bool.{both_ways, not-true, not-false, and_parts, and_from, or_right, ltb-true, ltb-false, lt-ltb, le-ltb, eqb-true, eqb-false, eq-eqb, ne_eqb, cases_eq, cases_lt, cases_Bool}
+use Rattle.std.proofs.Common.{◌≡◌, ℕ, ◌+◌, ◌-◌, ◌<◌, ◌≤◌, Bool, true, false, cond, not, ◌&&◌, ◌||◌, eqb, ltb, ◌⊎◌, Some, None, Option, ok_or, Ok, Err, sym, refl, ap, ◌∙◌, subst, inl, inr, ⊎_elim, arith}
+use Rattle.std.proofs.lemmas.Bool.{both_ways, not-true, not-false, and_parts, and_from, or_right, ltb-true, ltb-false, lt-ltb, le-ltb, eqb-true, eqb-false, eq-eqb, ne_eqb, cases_eq, cases_lt, cases_Bool, false_from_ne_true}
 use Rattle.std.proofs.lemmas.Bool.Decides.{nat_tests}
-use Rattle.rows.specs.Row.{Set, any, count as many}
-use Rattle.rows.proofs.Any.{any_from, any_some}
+use Rattle.rows.specs.Row.{any, count as many}
+use Rattle.rows.proofs.Any.{any_from, any_some, any_false_at}
 use Rattle.relations.specs.Algebra.{plus}
 use Rattle.relations.specs.Chains.{Chain}
 use Rattle.relations.specs.Table.{On}
@@ -11,18 +11,21 @@ use Rattle.relations.proofs.Closure.{closure_decides}
 use Rattle.executions.specs.declared.events.Event.{Event}
 use Rattle.executions.specs.declared.faults.Cause.TheVariants.{TooManyEvents, OutOfRange, NoSuchEvent, DoesNotFit, OverLimit, ReadWithoutRf, InitialWrites, CoherenceNotTotal, LocksNotPaired}
 use Rattle.executions.specs.declared.faults.Fault.{Fault}
+use Rattle.executions.specs.declared.faults.Layer.TheVariants.{Check}
 use Rattle.executions.specs.declared.ties.Relation.{Relation}
 use Rattle.executions.specs.declared.ties.Relation.TheVariants.{Rf, Co, Addr, Data, Ctrl, Rmw}
 use Rattle.executions.specs.Events.{in_range, is_read, is_write}
 use Rattle.executions.specs.Execution.{Execution, count, event_at}
 use Rattle.executions.specs.Ties.{fits}
+use Rattle.sources.specs.declared.kinds.Snapshot.{Snapshot}
+use Rattle.sources.specs.Snapshot.{execution, Copies}
 use Rattle.sources.specs.Source.{bounded}
 use Rattle.wellformed.specs.Events.{accesses, writes, initials, co, unlocks, depth}
 use Rattle.wellformed.specs.Faults.{or_else, first, fault_if, range_fault, one_too_many, pair_fault, tie_fault, row_fault, relation_fault, read_fault, initial_fault, unordered, disordered, coherence_fault, unlock_fault, last_lock, thread_fault, count_fault, events_fault, ties_fault, reads_fault, initials_fault, orders_fault, threads_fault, first_fault}
 use Rattle.wellformed.specs.WellFormed.{Tied, Inside, OneInitial, Ordered, Paired, WellFormed}
 use Rattle.wellformed.proofs.Counting.{one_from_count, count_from_one}
 use Rattle.wellformed.proofs.First.{first_clear, first_none_at, neither, both_none, unmet, unmet_by}
-use Rattle.wellformed.proofs.Limits.{false_from, one_rf_from, rf_fine, one_rmw_from, rmw_fine}
+use Rattle.wellformed.proofs.Limits.{one_rf_from, rf_fine, one_rmw_from, rmw_fine}
 
 -- ---- places
 
@@ -33,9 +36,6 @@ placed e r a = (grind (arith, nat_tests), grind (arith, nat_tests))
 -- a place from 1 on is one more than a number
 place_from : (p n : ℕ) → 1 ≤ p → p ≤ n → (k : ℕ) × (k < n) × (k + 1 ≡ p)
 place_from p n h l = (p - 1, omega arith, omega arith)
-
-any_false_at : (n : ℕ) (s : Set) → any n s ≡ false → (i : ℕ) → i < n → s i ≡ false
-any_false_at n s e i h = false_from (s i) (λ t. both_ways (any n s) e (any_from n i s h t))
 
 -- ---- what no fault of a tie says of it
 
@@ -149,7 +149,7 @@ module _ (x : Execution) (inside : Inside x) where
             subst (λ (b : Bool). (b && unordered x v w) ≡ false) u (subst (λ (b : Bool). (b && (writes x p w && unordered x v w)) ≡ false) t d)
 
     ordered_none : (p : ℕ) → Ordered x p → any (count x) (λ v. any (count x) (disordered x p v)) ≡ false
-    ordered_none p o = false_from _ λ e.
+    ordered_none p o = false_from_ne_true _ λ e.
         let v : (i : ℕ) × (i < count x) × (any (count x) (disordered x p i) ≡ true) = any_some (count x) (λ i. any (count x) (disordered x p i)) e in
         let w : (i : ℕ) × (i < count x) × (disordered x p v.0 i ≡ true) = any_some (count x) (disordered x p v.0) v.2 in
         let d = and_parts (writes x p v.0) (writes x p w.0 && unordered x v.0 w.0) w.2 in
@@ -271,8 +271,8 @@ module _ (x : Execution) (inside : Inside x) where
       both_none _ _ (unmet _ TooManyEvents 64 (le-ltb 64 (count x) w.few))
       (both_none _ _ (first_clear (range_fault x) (count x) (λ i h. unmet _ OutOfRange i (ap not (w.ranged i h))))
       (both_none _ _ (ties_none fine)
-      (both_none _ _ (first_clear (read_fault x) (count x) (λ b h. unmet _ ReadWithoutRf b (false_from _ (unread b h))))
-      (both_none _ _ (first_clear (λ k. initial_fault x (k + 1)) 16 (λ k h. unmet _ InitialWrites (k + 1) (false_from _ (unwritten (k + 1)))))
+      (both_none _ _ (first_clear (read_fault x) (count x) (λ b h. unmet _ ReadWithoutRf b (false_from_ne_true _ (unread b h))))
+      (both_none _ _ (first_clear (λ k. initial_fault x (k + 1)) 16 (λ k h. unmet _ InitialWrites (k + 1) (false_from_ne_true _ (unwritten (k + 1)))))
       (both_none _ _ (first_clear (λ k. coherence_fault x (k + 1)) 16 (λ k h. unmet _ CoherenceNotTotal (k + 1) (ordered_none w.few w.ends (k + 1) (w.ordered (k + 1)))))
       (first_clear (λ k. thread_fault x (k + 1)) 8 (λ k h. thread_none (k + 1) (w.paired (k + 1) (omega arith) (omega arith)))))))))
     where
@@ -304,7 +304,7 @@ module _ (x : Execution) (inside : Inside x) where
       thread_none : (t : ℕ) → Paired x t → thread_fault x t ≡ None
       thread_none t p =
           both_none _ _
-          (first_clear (unlock_fault x t) (count x) (λ u h. unmet _ LocksNotPaired u (false_from _ (λ e.
+          (first_clear (unlock_fault x t) (count x) (λ u h. unmet _ LocksNotPaired u (false_from_ne_true _ (λ e.
           let parts = and_parts (unlocks x t u) (eqb (depth x t u) 0) e in
           let z = eqb-true (depth x t u) 0 parts.1 in
           omega (arith, p.opened u h parts.0, z)))))
@@ -321,5 +321,14 @@ inside_bounded x r a b t =
 pub faulty : (x : Execution) → Inside x → (f : Fault) → first_fault x ≡ Some f → WellFormed x → ⊥
 faulty x inside f e w = let none = faultless x inside w in let z : ◌≡◌ {A = ℕ} 0 1 = cc in omega arith
 
-pub too_many : (x : Execution) (f : Fault) → 64 < count x → Some f ≡ fault_if true TooManyEvents 64 → first_fault x ≡ Some f
-too_many x f h e = rw (lt-ltb 64 (count x) h) (sym e)
+pub too_many : (x : Execution) (f : Fault) → 64 < count x → f ≡ record { cause = TooManyEvents; layer = Check; place = 64 } → first_fault x ≡ Some f
+too_many x f h e = rw (lt-ltb 64 (count x) h) (ap Some (sym e))
+
+-- the copy of a source, or the fault in its place
+pub copied : (x : Execution) (o : Option Snapshot) (f : Fault) (s : Snapshot) → Copies x o → ok_or o f ≡ Ok s → execution s ≡ x
+copied x None f s h e = let z : ◌≡◌ {A = ℕ} 0 1 = cc in absurd (omega arith)
+copied x (Some t) f s h e = let same : t ≡ s = cc in sym (ap execution same) ∙ h.1
+
+pub not_copied : (x : Execution) (o : Option Snapshot) (f g : Fault) → Copies x o → ok_or o f ≡ Err g → (64 < count x) × (g ≡ f)
+not_copied x None f g h e = let same : f ≡ g = cc in (h, sym same)
+not_copied x (Some s) f g h e = let z : ◌≡◌ {A = ℕ} 0 1 = cc in absurd (omega arith)

@@ -1,9 +1,9 @@
 -- A search for the first fault.
-use Rattle.std.proofs.Common.{◌≡◌, ℕ, zero, suc, ◌+◌, ◌-◌, ◌<◌, ◌≤◌, Bool, true, false, Some, None, Option, sym, refl, ap, ◌∙◌, subst, ⊎_elim, add-zero, add-suc, le_antisymm, add-one, arith}
+use Rattle.std.proofs.Common.{◌≡◌, ℕ, zero, suc, ◌+◌, ◌-◌, ◌<◌, ◌≤◌, Bool, true, false, List, [], ◌∷◌, length, get_or, take, Some, None, Option, sym, refl, ap, ◌∙◌, subst, ⊎_elim, add-zero, add-suc, le_antisymm, add-one, arith}
 use Rattle.std.proofs.lemmas.Bool.{cases_eq}
 use Rattle.executions.specs.declared.faults.Cause.{Cause}
 use Rattle.executions.specs.declared.faults.Fault.{Fault}
-use Rattle.wellformed.specs.Faults.{or_else, first, fault_if}
+use Rattle.wellformed.specs.Faults.{or_else, first, first_in, fault_if}
 
 -- ---- a loop that counts up
 
@@ -41,8 +41,6 @@ first_clear f (suc n) h = rw (first_clear f n (λ i l. h i (omega arith))) (h n 
 pub first_at : (f : ℕ → Option Fault) (i n : ℕ) (g : Fault) → i < n → ((k : ℕ) → k < i → f k ≡ None) → f i ≡ Some g → Some g ≡ first n f
 first_at f i n g h before here = first_stop f i n g h (first_clear f i before) here
 
--- ---- no fault at all
-
 none_left : (o p : Option Fault) → or_else o p ≡ None → o ≡ None
 none_left None p e = refl
 none_left (Some f) p e = e
@@ -53,6 +51,30 @@ none_right (Some f) p e = let z : ◌≡◌ {A = ℕ} 0 1 = cc in absurd (omega 
 
 pub neither : (o p : Option Fault) → or_else o p ≡ None → (o ≡ None) × (p ≡ None)
 neither o p e = (none_left o p e, none_right o p e)
+
+-- ---- a loop over a list
+
+first_in_next : {A : Type 0} (f : A → Option Fault) (xs : List A) (i : ℕ) (d : A) → i < length xs → first_in f (take i xs) ≡ None → f (get_or xs i d) ≡ None
+    → first_in f (take (suc i) xs) ≡ None
+first_in_next f [] i d h before here = absurd (omega arith)
+first_in_next f (x ∷ xs) zero d h before here = rw here refl
+first_in_next f (x ∷ xs) (suc i) d h before here =
+    let two = neither (f x) (first_in f (take i xs)) before in
+    rw two.0 (first_in_next f xs i d (omega arith) two.1 here)
+
+pub first_in_more : {A : Type 0} (f : A → Option Fault) (xs : List A) (i : ℕ) (d : A) → i < length xs → first_in f (take i xs) ≡ None → f (get_or xs i d) ≡ None
+    → first_in f (take (i + 1) xs) ≡ None
+first_in_more f xs i d h before here = rw (add-one i) (first_in_next f xs i d h before here)
+
+pub first_in_stop : {A : Type 0} (f : A → Option Fault) (xs : List A) (i : ℕ) (d : A) (g : Fault) → i < length xs → first_in f (take i xs) ≡ None → f (get_or xs i d) ≡ Some g
+    → Some g ≡ first_in f xs
+first_in_stop f [] i d g h before here = absurd (omega arith)
+first_in_stop f (x ∷ xs) zero d g h before here = rw here refl
+first_in_stop f (x ∷ xs) (suc i) d g h before here =
+    let two = neither (f x) (first_in f (take i xs)) before in
+    rw two.0 (first_in_stop f xs i d g (omega arith) two.1 here)
+
+-- ---- no fault at all
 
 pub both_none : (o p : Option Fault) → o ≡ None → p ≡ None → or_else o p ≡ None
 both_none o p e d = rw e d
@@ -71,6 +93,3 @@ unmet b c p e = rw e refl
 pub unmet_by : (b : Bool) (c : Cause) (p : ℕ) → fault_if b c p ≡ None → b ≡ false
 unmet_by false c p e = refl
 unmet_by true c p e = let z : ◌≡◌ {A = ℕ} 0 1 = cc in absurd (omega arith)
-
-pub met : (b : Bool) (c : Cause) (p : ℕ) → b ≡ true → fault_if b c p ≡ fault_if true c p
-met b c p e = rw e refl

@@ -1,4 +1,3 @@
-pub mod Cohering
 mod Counting
 pub mod Deciding
 mod First

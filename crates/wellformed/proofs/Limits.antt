@@ -1,16 +1,12 @@
 -- The limits on ties: the tests of the check against the words of the subject.
-use Rattle.std.proofs.Common.{◌≡◌, ℕ, ◌<◌, Bool, true, false, ◌&&◌, ◌||◌, ltb, sym, refl, subst, inl, inr, ⊎_elim, arith}
-use Rattle.std.proofs.lemmas.Bool.{both_ways, or_parts, or_cases, and_parts, and_from, lt-ltb, ltb-true, cases_order}
+use Rattle.std.proofs.Common.{◌≡◌, ℕ, ◌<◌, true, false, ◌&&◌, ◌||◌, ltb, sym, refl, subst, inl, inr, ⊎_elim, arith}
+use Rattle.std.proofs.lemmas.Bool.{both_ways, or_parts, or_cases, and_parts, and_from, lt-ltb, ltb-true, cases_order, false_from_ne_true}
 use Rattle.rows.specs.Row.{any}
 use Rattle.rows.proofs.Any.{any_from, any_some}
 use Rattle.executions.specs.declared.ties.Relation.TheVariants.{Rf, Rmw}
 use Rattle.executions.specs.Execution.{Execution}
 use Rattle.wellformed.specs.Faults.{stands_before, one_too_many}
 use Rattle.wellformed.specs.WellFormed.{Tied, Stands}
-
-pub false_from : (b : Bool) → (b ≡ true → ⊥) → b ≡ false
-false_from true h = absurd (h refl)
-false_from false h = refl
 
 -- ---- reads-from
 
@@ -23,7 +19,7 @@ one_rf_from x fine a c b t u =
     ⊎_elim (λ e. e) (⊎_elim (λ h. absurd (rf_clash x a c b h t (fine c b u))) (λ h. absurd (rf_clash x c a b h u (fine a b t)))) (cases_order a c)
 
 pub rf_fine : (x : Execution) → ((a c b : ℕ) → Tied x Rf a b → Tied x Rf c b → a ≡ c) → (a b : ℕ) → Tied x Rf a b → one_too_many x Rf a b ≡ false
-rf_fine x one a b t = false_from _ λ h. let c = any_some a (λ k. x.ties Rf k b) h in omega (arith, c.1, one c.0 a b c.2 t)
+rf_fine x one a b t = false_from_ne_true _ λ h. let c = any_some a (λ k. x.ties Rf k b) h in omega (arith, c.1, one c.0 a b c.2 t)
 
 -- ---- read-modify-write
 
@@ -64,7 +60,7 @@ module _ (x : Execution) (inside : (a b : ℕ) → Tied x Rmw a b → b < 64) wh
 
   pub rmw_fine : ((a b c d e : ℕ) → Tied x Rmw a b → Tied x Rmw c d → Stands e a b → Stands e c d → (a ≡ c) × (b ≡ d))
       → (a b : ℕ) → Tied x Rmw a b → one_too_many x Rmw a b ≡ false
-  rmw_fine one a b t = false_from _ λ h. ⊎_elim at_a (λ k. ⊎_elim at_b in_row (or_cases _ _ k)) (or_cases _ _ h)
+  rmw_fine one a b t = false_from_ne_true _ λ h. ⊎_elim at_a (λ k. ⊎_elim at_b in_row (or_cases _ _ k)) (or_cases _ _ h)
     where
       at_a : stands_before x a a ≡ true → ⊥
       at_a h =

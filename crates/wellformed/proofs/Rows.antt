@@ -1,10 +1,12 @@
 -- Searches in a row by its lowest number.
-use Rattle.std.proofs.Common.{◌≡◌, ℕ, zero, suc, ◌+◌, ◌<◌, Bool, true, false, ◌||◌, ltb, sym, refl, ◌∙◌, subst, ap₂, ⊎_elim, add-one, arith}
-use Rattle.std.proofs.lemmas.Bool.{lt-ltb, le-ltb, cases_lt, or_from}
+use Rattle.std.proofs.Common.{◌≡◌, ℕ, zero, suc, ◌+◌, Bool, true, false, cond, ◌||◌, ltb, [], ◌∷◌, ◌++◌, Some, None, Option, MatchOption, sym, refl, ap, ◌∙◌, subst, ap₂, ⊎_elim, add-one, add-zero, zero-add, arith}
+use Rattle.std.proofs.lemmas.Bool.{lt-ltb, le-ltb, cases_lt}
 use lib.Bits.{bit_or}
+use Rattle.std.specs.List.{range_with_len, count_by}
+use Rattle.std.proofs.lemmas.List.Sums.{sum_by_push}
 use Rattle.rows.specs.Row.{Set, bit, any, count, tick, Lowest}
 use Rattle.rows.proofs.Bits.{bit-bit_or}
-use Rattle.rows.proofs.Any.{any_from}
+use Rattle.rows.proofs.Any.{any_from, any_clear}
 
 or_comm : (x y : Bool) → (x || y) ≡ (y || x)
 or_comm true true = refl
@@ -12,20 +14,17 @@ or_comm true false = refl
 or_comm false true = refl
 or_comm false false = refl
 
--- nothing below n
-pub any_clear : (s : Set) (n : ℕ) → ((i : ℕ) → i < n → s i ≡ false) → any n s ≡ false
-unfolding any
-any_clear s zero h = refl
-any_clear s (suc n) h = or_from (s n) (any n s) (h n (omega arith)) (any_clear s n (λ i l. h i (omega arith)))
-
-pub below_lowest : (s : Set) (c b : ℕ) → Lowest s c → ltb c b ≡ any b s
+below_lowest : (s : Set) (c b : ℕ) → Lowest s c → ltb c b ≡ any b s
 below_lowest s c b low =
     ⊎_elim (λ h. lt-ltb c b h ∙ sym (any_from b c s h low.member))
     (λ h. le-ltb c b h ∙ sym (any_clear s b (λ i l. low.first i (omega arith))))
     (cases_lt c b)
 
-pub below_nothing : (s : Set) (b : ℕ) → ((i : ℕ) → s i ≡ false) → false ≡ any b s
-below_nothing s b none = sym (any_clear s b (λ i l. none i))
+-- the lowest number in a row tells whether one below b is in it
+pub below_found : {P : ℕ → Type 0} (s : Set) (b : ℕ) (lowest : Option ℕ) (r : Bool) → MatchOption lowest ((x : ℕ) → s x ≡ false) (λ c. Lowest s c) → MatchOption lowest (r ≡ false) P
+    → ((c : ℕ) → P c → r ≡ ltb c b) → r ≡ any b s
+below_found s b None r none is test = is ∙ sym (any_clear s b (λ i l. none i))
+below_found s b (Some c) r low is test = test c is ∙ below_lowest s c b low
 
 -- rows gathered one after another: one row more
 pub gathered_more : (t w e a : ℕ) (s : Set) → bit t e ≡ any a s → bit w e ≡ s a → bit (bit_or t w) e ≡ any (a + 1) s
@@ -36,15 +35,23 @@ gathered_more t w e a s before here = rw add-one (bit-bit_or t w e ∙ ap₂ ◌
 pub gathered_all : (t e i n : ℕ) (s : Set) → i ≡ n → bit t e ≡ any i s → bit t e ≡ any n s
 gathered_all t e i n s p h = subst (λ (k : ℕ). bit t e ≡ any k s) p h
 
--- ---- counting the numbers in a set
+-- ---- counting over a range
 
-pub many_none : (s : Set) → 0 ≡ count 0 s
+-- the last number of a range
+range_end : (a n : ℕ) → range_with_len a (suc n) ≡ range_with_len a n ++ (a + n) ∷ []
+range_end a zero = ap (λ (k : ℕ). k ∷ []) (sym (add-zero a))
+range_end a (suc n) =
+    let e : (a + 1) + n ≡ a + suc n = omega arith in
+    ap (λ l. a ∷ l) (range_end (a + 1) n ∙ ap (λ (k : ℕ). range_with_len (a + 1) n ++ k ∷ []) e)
+
+-- what a count over the first n numbers answers
+pub count_range : (n : ℕ) (s : Set) → count_by s (range_with_len 0 n) ≡ count n s
 unfolding count
-many_none s = refl
-
-pub many_more : (s : Set) (i found more : ℕ) → found ≡ count i s → more ≡ tick (s i) → found + more ≡ count (i + 1) s
-unfolding count
-many_more s i found more before here = rw (add-one i) (omega (arith, before, here))
-
-pub many_all : (s : Set) (i n found : ℕ) → i ≡ n → found ≡ count i s → found ≡ count n s
-many_all s i n found p h = subst (λ (k : ℕ). found ≡ count k s) p h
+count_range zero s = refl
+count_range (suc n) s =
+    ap (count_by s) (range_end 0 n) ∙ sum_by_push (λ k. cond (s k) 1 0) (range_with_len 0 n) (0 + n)
+    ∙ ap₂ (λ u (k : ℕ). u + cond (s k) 1 0) (count_range n s) (zero-add n) ∙ ticked (s n)
+  where
+    ticked : (t : Bool) → count n s + cond t 1 0 ≡ tick t + count n s
+    ticked true = omega arith
+    ticked false = omega arith

@@ -10,6 +10,7 @@ use Rattle.executions.specs.declared.ties.Relation.{Relation}
 use Rattle.executions.specs.declared.ties.Relation.TheVariants.{Rf, Co, Addr, Data, Ctrl, Rmw}
 use Rattle.executions.specs.Execution.{Execution}
 use Rattle.wellformed.specs.Faults.{tie_fault, pair_fault, one_too_many}
+use Rattle.wellformed.specs.declared.ties.Ends.{Ends}
 use Rattle.wellformed.specs.Walk.{Before, over_by, source_if}
 use Rattle.wellformed.proofs.Rows.{gathered_more}
 
@@ -54,7 +55,7 @@ or_true : (x : Bool) → (x || true) ≡ true
 or_true true = refl
 or_true false = refl
 
-or-false : (x : Bool) → (x || false) ≡ x
+pub or-false : (x : Bool) → (x || false) ≡ x
 or-false true = refl
 or-false false = refl
 
@@ -68,16 +69,19 @@ before_none x r = record {
   come_from = λ e. bit_zero e ∙ sym (rw (le-ltb e 0 (omega arith)) refl);
 }
 
-pub before_more : (x : Execution) (r : Relation) (a targets sources row next : ℕ) (tied : Bool) → a < 64 → bit row ≡ x.ties r a → tied ≡ any 64 (bit row)
-    → bit next ≡ source_if tied a (bit sources) → Before x r a targets sources → Before x r (a + 1) (bit_or targets row) next
+pub before_more : (x : Execution) (r : Relation) (a targets sources row : ℕ) (next : Ends) → a < 64 → bit row ≡ x.ties r a → next.targets ≡ bit_or targets row
+    → bit next.sources ≡ source_if (any 64 (bit row)) a (bit sources) → Before x r a targets sources → Before x r (a + 1) next.targets next.sources
 unfolding adding
-before_more x r a targets sources row next tied room e t n w = record {
-  led_to = λ d. gathered_more targets row d a (λ c. x.ties r c d) (w.led_to d) (ap (λ (s : Set). s d) e);
+before_more x r a targets sources row next room e t n w = record {
+  led_to = λ d. ap (λ (k : ℕ). bit k d) t ∙ gathered_more targets row d a (λ c. x.ties r c d) (w.led_to d) (ap (λ (s : Set). s d) e);
   come_from = λ d. ap (λ (s : Set). s d) n ∙ ⊎_elim (here d) (there d) (cases_eq d a);
 }
   where
+    tied : Bool
+    tied = any 64 (bit row)
+
     is_tied : tied ≡ any 64 (x.ties r a)
-    is_tied = t ∙ ap (any 64) e
+    is_tied = ap (any 64) e
 
     here : (d : ℕ) → d ≡ a → source_if tied a (bit sources) d ≡ (ltb d (a + 1) && any 64 (x.ties r d))
     here d q = rw (q, lt-ltb a (a + 1) (omega arith), ← is_tied) (go tied)

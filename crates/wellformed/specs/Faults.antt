@@ -1,5 +1,6 @@
 -- The faults of the check, in their order.
-use Rattle.std.specs.Prelude.{ℕ, zero, suc, ◌+◌, Bool, false, cond, not, ◌&&◌, ◌||◌, List, [], ◌∷◌, Some, None, Option, ◌==◌, nat_lt}
+use Rattle.std.specs.Prelude.{◌≡◌, ℕ, zero, suc, ◌+◌, ◌<◌, Bool, false, cond, not, ◌&&◌, ◌||◌, List, [], ◌∷◌, Some, None, Option, Result, ◌==◌, nat_lt}
+use Rattle.std.specs.Result.{result_err}
 use Rattle.rows.specs.Row.{any, count as many}
 use Rattle.relations.specs.Algebra.{plus}
 use Rattle.executions.specs.declared.faults.Cause.{Cause}
@@ -29,6 +30,11 @@ first (suc n) f = or_else (first n f) (f n)
 abbrev pub first_in : {A : Type 0} → (A → Option Fault) → List A → Option Fault
 first_in f [] = None
 first_in f (x ∷ xs) = or_else (f x) (first_in f xs)
+
+-- the outcome r of tests of 0, 1 and so on below n: where a test that answers t may only decline with the fault of its number, the first of these faults
+abbrev pub FirstOf : ℕ → (ℕ → Result (Unit {0}) Fault → Type 0) → Result (Unit {0}) Fault → Type 0
+FirstOf n answers r =
+    (faults : ℕ → Option Fault) → ((i : ℕ) (t : Result (Unit {0}) Fault) → i < n → answers i t → result_err t ≡ faults i) → result_err r ≡ first n faults
 
 -- a fault of the check at a place, if the test is met
 abbrev pub fault_if : Bool → Cause → ℕ → Option Fault

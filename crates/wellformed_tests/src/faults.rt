@@ -1,34 +1,20 @@
 // Each fault of the check, and which comes first.
+use crate::desk::Desk;
 use crate::repeated::Repeated;
 use executions::{Cause, Event, Fault, Layer, Relation, Sort};
 use sources::{CaseSource, Cut, Lowered};
 use std::process::Abort;
 use std::test::Fail;
-use tables::{OpenCase, SealedCase};
+use tables::SealedCase;
 use wellformed::check as check_case;
 
-fn event(thread: u8, sort: Sort, place: u8) -> Event {
-    Event {
-        thread,
-        sort: sort.number(),
-        place,
-    }
-}
-
 fn fault(cause: Cause, place: u32) -> Fault {
-    Fault {
-        cause,
-        layer: Layer::Check,
-        place,
-    }
+    Layer::Check.fault(cause, place)
 }
 
 // What the check answers of a source, without the copy.
 fn checked<S: CaseSource>(source: &S) -> Result<(), Fault> {
-    match check_case(source) {
-        Ok(_) => Ok(()),
-        Err(found) => Err(found),
-    }
+    check_case(source).map(|_| ())
 }
 
 // What the check answers of one event, so many times.
@@ -39,44 +25,17 @@ fn repeated(event: Event, count: usize) -> Result<(), Fault> {
 // More than 64 events: one too many, many too many, and before an event out of range.
 #[test]
 fn too_many_events(rt: HostRuntime) {
-    let fence = event(1, Sort::Blank, 0);
+    let fence = Event::of(1, Sort::Blank, 0);
     let many = fault(Cause::TooManyEvents, 64);
     assert_eq!(rt; repeated(fence, 0), Ok(()));
     assert_eq!(rt; repeated(fence, 64), Ok(()));
     assert_eq!(rt; repeated(fence, 65), Err(many));
     assert_eq!(rt; repeated(fence, 1000), Err(many));
-    assert_eq!(rt; repeated(event(9, Sort::Blank, 0), 65), Err(many));
+    assert_eq!(rt; repeated(Event::of(9, Sort::Blank, 0), 65), Err(many));
     assert_eq!(rt;
-        repeated(event(9, Sort::Blank, 0), 64),
+        repeated(Event::of(9, Sort::Blank, 0), 64),
         Err(fault(Cause::OutOfRange, 0))
     );
-}
-
-fn enter_all(
-    rt: &impl Abort,
-    case: &mut OpenCase,
-    events: &mut [Event],
-    ties: &[u64],
-    all: &[Event],
-) {
-    for e in all {
-        assert!(rt; case.enter(events, ties, *e).is_ok());
-    }
-}
-
-fn tie_all(
-    rt: &impl Abort,
-    case: &OpenCase,
-    events: &[Event],
-    ties: &mut [u64],
-    pairs: &[(Relation, u32, u32)],
-) {
-    for (relation, first, second) in pairs {
-        assert_eq!(rt;
-            case.tie(events, ties, relation.number() as u32, *first, *second),
-            Ok(())
-        );
-    }
 }
 
 // Builds a case by calls and seals it.
@@ -85,30 +44,21 @@ fn seal(
     all: &[Event],
     pairs: &[(Relation, u32, u32)],
 ) -> Result<Result<(), Fault>, Fail> {
-    let mut events = [Event::UNUSED; 64];
-    let mut ties = [0u64; 384];
-    let mut case = OpenCase::open(&mut events, &mut ties)?;
-    enter_all(rt, &mut case, &mut events, &ties, all);
-    tie_all(rt, &case, &events, &mut ties, pairs);
-    match case.seal(&events, &ties) {
-        Ok(_) => Ok(Ok(())),
-        Err(back) => {
-            let (_, found) = back;
-            Ok(Err(found))
-        }
-    }
+    let Desk { case, events, ties } = Desk::built(rt, all, pairs)?;
+    let answer = case.seal(&events, &ties);
+    Ok(answer.map(|_| ()).map_err(|(_, found)| found))
 }
 
 fn initial(place: u8) -> Event {
-    event(0, Sort::WriteOnce, place)
+    Event::of(0, Sort::WriteOnce, place)
 }
 
 fn write(thread: u8, place: u8) -> Event {
-    event(thread, Sort::WriteOnce, place)
+    Event::of(thread, Sort::WriteOnce, place)
 }
 
 fn read(thread: u8, place: u8) -> Event {
-    event(thread, Sort::ReadOnce, place)
+    Event::of(thread, Sort::ReadOnce, place)
 }
 
 // A read without rf, by number, and before the faults of places and locks.
@@ -122,7 +72,7 @@ fn reads(rt: HostRuntime) -> Result<(), Fail> {
         seal(&rt, &[initial(1), read(1, 1)], &[])?,
         Err(fault(Cause::ReadWithoutRf, 1))
     );
-    let all = [event(1, Sort::RcuLock, 0), read(1, 2), read(1, 1)];
+    let all = [Event::of(1, Sort::RcuLock, 0), read(1, 2), read(1, 1)];
     assert_eq!(rt; seal(&rt, &all, &[])?, Err(fault(Cause::ReadWithoutRf, 1)));
     Ok(())
 }
@@ -175,7 +125,7 @@ fn coherence(rt: HostRuntime) -> Result<(), Fail> {
         write(1, 2),
         initial(1),
         write(1, 1),
-        event(1, Sort::RcuUnlock, 0),
+        Event::of(1, Sort::RcuUnlock, 0),
     ];
     assert_eq!(rt;
         seal(&rt, &two, &[])?,
@@ -187,8 +137,8 @@ fn coherence(rt: HostRuntime) -> Result<(), Fail> {
 // An unlock too many, a lock left open with nesting, and the lowest thread first.
 #[test]
 fn locks(rt: HostRuntime) -> Result<(), Fail> {
-    let lock = event(1, Sort::RcuLock, 0);
-    let unlock = event(1, Sort::RcuUnlock, 0);
+    let lock = Event::of(1, Sort::RcuLock, 0);
+    let unlock = Event::of(1, Sort::RcuUnlock, 0);
     assert_eq!(rt;
         seal(&rt, &[lock, lock, unlock, unlock, lock, unlock], &[])?,
         Ok(())
@@ -202,22 +152,15 @@ fn locks(rt: HostRuntime) -> Result<(), Fail> {
         Err(fault(Cause::LocksNotPaired, 2))
     );
     assert_eq!(rt;
-        seal(&rt, &[event(2, Sort::RcuUnlock, 0), lock], &[])?,
+        seal(&rt, &[Event::of(2, Sort::RcuUnlock, 0), lock], &[])?,
         Err(fault(Cause::LocksNotPaired, 1))
     );
     Ok(())
 }
 
-// A sealed case of five events in its tables: an initial write, two reads and two writes of place 1 in thread 1.
-fn sealed(rt: &impl Abort, events: &mut [Event], ties: &mut [u64]) -> Result<SealedCase, Fail> {
-    let mut case = OpenCase::open(events, ties)?;
-    enter_all(
-        rt,
-        &mut case,
-        events,
-        ties,
-        &[initial(1), read(1, 1), read(1, 1), write(1, 1), write(1, 1)],
-    );
+// A sealed case of five events: an initial write, two reads and two writes of place 1 in thread 1.
+fn sealed(rt: &impl Abort) -> Result<Desk<SealedCase>, Fail> {
+    let all = [initial(1), read(1, 1), read(1, 1), write(1, 1), write(1, 1)];
     let pairs = [
         (Relation::Rf, 0, 1),
         (Relation::Rf, 0, 2),
@@ -226,11 +169,11 @@ fn sealed(rt: &impl Abort, events: &mut [Event], ties: &mut [u64]) -> Result<Sea
         (Relation::Rmw, 1, 3),
         (Relation::Ctrl, 1, 4),
     ];
-    tie_all(rt, &case, events, ties, &pairs);
-    match case.seal(events, ties) {
-        Ok(case) => Ok(case),
-        Err(_) => Err(Fail::new("the case does not seal")),
-    }
+    let Desk { case, events, ties } = Desk::built(rt, &all, &pairs)?;
+    let case = case
+        .seal(&events, &ties)
+        .map_err(|_| "the case does not seal")?;
+    Ok(Desk { case, events, ties })
 }
 
 // The check of the table source, after one record and one word were written over.
@@ -241,9 +184,11 @@ fn overwritten(
     at: usize,
     word: u64,
 ) -> Result<Result<(), Fault>, Fail> {
-    let mut events = [Event::UNUSED; 64];
-    let mut ties = [0u64; 384];
-    let case = sealed(rt, &mut events, &mut ties)?;
+    let Desk {
+        case,
+        mut events,
+        mut ties,
+    } = sealed(rt)?;
     if number < 64 {
         events[number] = record;
     }
@@ -259,7 +204,7 @@ fn events_and_ties(rt: HostRuntime) -> Result<(), Fail> {
     let same = read(1, 1);
     assert_eq!(rt; overwritten(&rt, 1, same, 0, 0b110)?, Ok(()));
     assert_eq!(rt;
-        overwritten(&rt, 1, event(9, Sort::ReadOnce, 1), 0, 1 << 63)?,
+        overwritten(&rt, 1, Event::of(9, Sort::ReadOnce, 1), 0, 1 << 63)?,
         Err(fault(Cause::OutOfRange, 1))
     );
     assert_eq!(rt;
@@ -292,16 +237,19 @@ fn events_and_ties(rt: HostRuntime) -> Result<(), Fail> {
 // The same check over layers: a cut hides a dependency and a lowered case is well formed still.
 #[test]
 fn layers_over_tables(rt: HostRuntime) -> Result<(), Fail> {
-    let mut events = [Event::UNUSED; 64];
-    let mut ties = [0u64; 384];
-    let case = sealed(&rt, &mut events, &mut ties)?;
+    let Desk { case, events, ties } = sealed(&rt)?;
+    let (ctrl, rmw) = (
+        Relation::Ctrl.number() as u32,
+        Relation::Rmw.number() as u32,
+    );
+    let rf = Relation::Rf.number() as u32;
     let cut = Cut {
         below: case.source(&events, &ties)?,
-        relation: 5,
+        relation: ctrl,
         event: 1,
     };
-    assert_eq!(rt; cut.row(5, 1), 0);
-    assert_eq!(rt; cut.row(6, 1), 0b1000);
+    assert_eq!(rt; cut.row(ctrl, 1), 0);
+    assert_eq!(rt; cut.row(rmw, 1), 0b1000);
     let layers = Lowered {
         below: cut,
         sorts: [Sort::ReadOnce.number(); 64],
@@ -309,10 +257,10 @@ fn layers_over_tables(rt: HostRuntime) -> Result<(), Fail> {
     assert_eq!(rt; checked(&layers), Ok(()));
     let other = Cut {
         below: case.source(&events, &ties)?,
-        relation: 1,
+        relation: rf,
         event: 0,
     };
-    assert_eq!(rt; other.row(1, 0), 0b110);
+    assert_eq!(rt; other.row(rf, 0), 0b110);
     assert_eq!(rt; checked(&other), Ok(()));
     Ok(())
 }

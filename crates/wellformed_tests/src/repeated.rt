@@ -18,11 +18,7 @@ impl CaseSource for Repeated {
     }
 
     fn event(&self, number: usize) -> Option<Event> {
-        if number < self.count {
-            Some(self.event)
-        } else {
-            None
-        }
+        (number < self.count).then_some(self.event)
     }
 
     fn row(&self, relation: u32, event: usize) -> u64 {

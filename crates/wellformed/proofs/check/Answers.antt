@@ -1,25 +1,34 @@
 use Rattle.std.proofs.Common.{◌≡◌, Some, None, sym, ap, ◌∙◌, subst}
+use Rattle.std.proofs.lemmas.Result.{err_from_is_err_and}
 use Rattle.sources.specs.Source.{bounded}
 use Rattle.wellformed.specs.Faults.{first_fault}
 use Rattle.wellformed.specs.WellFormed.{Inside}
-use Rattle.wellformed.proofs.Deciding.{inside_bounded, formed, faulty, too_many}
+use Rattle.wellformed.proofs.Deciding.{inside_bounded, formed, faulty, too_many, copied, not_copied}
 use Rattle.wellformed.proofs.check.Goals as goal
 
-pub case_fault-requires : goal.case_fault-requires
-case_fault-requires g c = subst Inside (sym c.in-Some.ensures.1) (inside_bounded (g.S.CaseSource.meaning c.args.source.now))
+pub test_case-requires : goal.test_case-requires
+test_case-requires g c =
+    subst Inside (sym (copied (bounded (g.S.CaseSource.meaning c.args.source.now)) _ _ _ c.of.ensures (sym c.ok_or.ensures.value ∙ c.in_ok-case.was)))
+    (inside_bounded (g.S.CaseSource.meaning c.args.source.now))
 
-pub returns-in-Some-case_fault : goal.returns-in-Some-case_fault
-returns-in-Some-case_fault g c =
-    let e : first_fault (bounded (g.S.CaseSource.meaning c.args.source.now)) ≡ Some c.in-Some-case_fault.found =
-    sym (ap first_fault c.in-Some.ensures.1) ∙ sym c.in-Some-case_fault.ensures in
-    (e, faulty (bounded (g.S.CaseSource.meaning c.args.source.now)) (inside_bounded (g.S.CaseSource.meaning c.args.source.now)) c.in-Some-case_fault.found e)
+pub returns-in_err-case : goal.returns-in_err-case
+returns-in_err-case g c =
+    let p = err_from_is_err_and c.from_residual.result c.from_residual.ensures.1 in
+    let none = not_copied (bounded (g.S.CaseSource.meaning c.args.source.now)) _ _ _ c.of.ensures (sym c.ok_or.ensures.value ∙ c.in_err-case.was) in
+    let e = too_many (bounded (g.S.CaseSource.meaning c.args.source.now)) c.in_err-case.field-0.0 none.0 (none.1 ∙ c.fault.ensures) in
+    rw (p.1, p.2)
+    (e, faulty (bounded (g.S.CaseSource.meaning c.args.source.now)) (inside_bounded (g.S.CaseSource.meaning c.args.source.now)) c.in_err-case.field-0.0 e)
 
-pub returns-in-None : goal.returns-in-None
-returns-in-None g c =
-    let e : first_fault (bounded (g.S.CaseSource.meaning c.args.source.now)) ≡ None = sym (ap first_fault c.in-Some.ensures.1) ∙ sym c.in-None.ensures in
-    (c.in-Some.ensures.1, e, formed (bounded (g.S.CaseSource.meaning c.args.source.now)) (inside_bounded (g.S.CaseSource.meaning c.args.source.now)) e)
+pub returns-in_err-test_case : goal.returns-in_err-test_case
+returns-in_err-test_case g c =
+    let p = err_from_is_err_and c.from_residual-in_err-test_case.result c.from_residual-in_err-test_case.ensures.1 in
+    let same = copied (bounded (g.S.CaseSource.meaning c.args.source.now)) _ _ _ c.of.ensures (sym c.ok_or.ensures.value ∙ c.in_ok-case.was) in
+    let e : first_fault (bounded (g.S.CaseSource.meaning c.args.source.now)) ≡ Some c.in_err-test_case.field-0.0 = sym (ap first_fault same) ∙ sym c.in_err-test_case.ensures in
+    rw (p.1, p.2)
+    (e, faulty (bounded (g.S.CaseSource.meaning c.args.source.now)) (inside_bounded (g.S.CaseSource.meaning c.args.source.now)) c.in_err-test_case.field-0.0 e)
 
-pub returns-in_default : goal.returns-in_default
-returns-in_default g c =
-    let e = too_many (bounded (g.S.CaseSource.meaning c.args.source.now)) c.fault.result c.in_default.ensures c.fault.ensures in
-    (e, faulty (bounded (g.S.CaseSource.meaning c.args.source.now)) (inside_bounded (g.S.CaseSource.meaning c.args.source.now)) c.fault.result e)
+pub returns : goal.returns
+returns g c =
+    let same = copied (bounded (g.S.CaseSource.meaning c.args.source.now)) _ _ _ c.of.ensures (sym c.ok_or.ensures.value ∙ c.in_ok-case.was) in
+    let e : first_fault (bounded (g.S.CaseSource.meaning c.args.source.now)) ≡ None = sym (ap first_fault same) ∙ sym c.in_ok-test_case.ensures in
+    (same, e, formed (bounded (g.S.CaseSource.meaning c.args.source.now)) (inside_bounded (g.S.CaseSource.meaning c.args.source.now)) e)

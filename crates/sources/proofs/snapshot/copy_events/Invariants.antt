@@ -3,4 +3,4 @@ use Rattle.sources.proofs.snapshot.copy_events.Given as goal
 
 -- the events so far are the source's
 abbrev pub invariant-loop-i : goal.invariant-loop-i
-invariant-loop-i g l = take l.i l.events ≡ take l.i (g.S.CaseSource.meaning l.source).events
+invariant-loop-i g l = take l.i l.event-items ≡ take l.i (g.S.CaseSource.meaning l.source).events

@@ -1,22 +1,19 @@
-use Rattle.std.proofs.Common.{ap, ◌∙◌, arith}
-use Rattle.rows.specs.Row.{tick}
-use Rattle.executions.specs.Execution.{count}
+use Rattle.std.proofs.Common.{rules, ℕ, ap, ◌∙◌, arith}
+use borrow.Author.Tests.{tests}
+use Rattle.std.specs.List.{range_with_len}
+use Rattle.std.proofs.lemmas.Iterator.{YieldsList-from_range}
+use Rattle.std.proofs.lemmas.Iterator.Consumers.{YieldsList-from_filter, count_from_yields_List}
+use Rattle.std.proofs.lemmas.List.Sums.{length-filter}
+use Rattle.rows.specs.Row.{count}
 use Rattle.sources.specs.Snapshot.{execution}
 use Rattle.wellformed.specs.Events.{initials}
-use Rattle.wellformed.proofs.Rows.{many_none, many_more, many_all}
+use Rattle.wellformed.proofs.Rows.{count_range}
 use Rattle.wellformed.proofs.places.initial_writes.Goals as goal
-
-pub loop-i-init : goal.loop-i-init
-loop-i-init c = (many_none _, omega arith)
-
-pub loop-i-preserved : goal.loop-i-preserved
-loop-i-preserved c = (
-  many_more (initials (execution c.args.case.now) c.args.place) c.loop-i.i c.loop-i.found c.one_if-found.result c.loop-i.invariant.0
-      (c.one_if-found.ensures.0 ∙ ap tick c.is_initial.ensures),
-  omega (arith, c.loop-i.invariant.1, c.one_if-found.ensures.1),
-)
 
 pub returns : goal.returns
 returns c =
-    many_all (initials (execution c.args.case.now) c.args.place) c.loop-i.i (count (execution c.args.case.now)) c.loop-i.found
-    (omega (arith, c.count-i-end.ensures)) c.loop-i.invariant.0
+    let s = initials (execution c.args.case.now) c.args.place in
+    let n = c.count.result in
+    count_from_yields_List c.filter.result _ c.count-2.ensures.ran
+    (YieldsList-from_filter _ s (YieldsList-from_range 0 n n c.filter.ensures.source (omega arith)) c.filter.ensures.closure (λ i b q k. search (rules, tests)))
+    ∙ length-filter s (range_with_len 0 n) ∙ count_range n s ∙ ap (λ (k : ℕ). count k s) c.count.ensures

@@ -1,8 +1,9 @@
-use Rattle.wellformed.proofs.Rows.{below_lowest, below_nothing}
+use Rattle.std.proofs.Common.{rules}
+use borrow.Author.Tests.{tests}
+use Rattle.rows.specs.Row.{bit}
+use Rattle.wellformed.proofs.Rows.{below_found}
 use Rattle.wellformed.proofs.ties.has_below.Goals as goal
 
-pub returns-in-Some : goal.returns-in-Some
-returns-in-Some c = below_lowest _ c.in-Some.c c.args.b c.in-Some.ensures
-
-pub returns-in-None : goal.returns-in-None
-returns-in-None c = below_nothing _ c.args.b c.in-None.ensures
+pub returns : goal.returns
+returns c =
+    below_found (bit c.args.row) c.args.b c.lowest.result c.is_some_and.result c.lowest.ensures c.is_some_and.ensures (λ x p. search (rules, tests))

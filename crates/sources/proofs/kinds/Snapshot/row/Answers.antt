@@ -1,4 +1,4 @@
-use Rattle.std.proofs.Common.{get_or, sym, refl, ap, ◌∙◌}
+use Rattle.std.proofs.Common.{ℕ, ◌+◌, get_or, sym, refl, ap, ◌∙◌}
 use mathlib.Core.Path.{fun_ext}
 use Rattle.std.proofs.lemmas.Bool.{lt-ltb, le-ltb}
 use Rattle.rows.specs.Row.{bit}
@@ -7,7 +7,7 @@ use Rattle.sources.proofs.kinds.Snapshot.row.Goals as goal
 
 pub returns-then-event-self : goal.returns-then-event-self
 returns-then-event-self c =
-    ap (λ i. bit (get_or c.args.self.now.words i 0)) c.word_of.ensures.0
+    ap (λ (k : ℕ). bit (get_or c.args.self.now.words (k + c.args.event) 0)) c.first_word.ensures.place
     ∙ fun_ext λ b. rw (lt-ltb c.args.event c.args.self.now.count c.if-event-self.true) refl
 
 pub returns-else-event-self : goal.returns-else-event-self
