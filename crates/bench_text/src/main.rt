@@ -8,34 +8,23 @@
 mod cases;
 mod steps;
 
-use anyhow::anyhow;
-use caselines::fields::same;
-use cases::built;
-use casewriter::{front, write};
-use executions::{Event, Relation};
+use anyhow::Context;
+use cases::{Built, ROOM};
+use casewriter::front;
+use executions::Relation;
 use std::env;
 use std::time::Instant;
-use steps::{ROOM, ROUNDS, STEPS, numbered, repeated, retold, tied};
-use tables::SealedCase;
-
-// The cases are numbered by the last relation that has its ties; none is without rf and co.
-const FIRST: u32 = 2;
-
-const LAST: u32 = 6;
+use steps::{ROUNDS, STEPS, repeated, retold};
 
 fn main(rt: HostRuntime) -> anyhow::Result<()> {
     let mut words = env::args(&rt)?;
-    let _program = words.next();
-    let Some(word) = words.next() else {
+    let Some(word) = words.nth(1) else {
         return print_all(&rt, false);
     };
     if word.as_str() == "time" {
         return print_all(&rt, true);
     }
-    let Some(number) = words.next() else {
-        return Ok(());
-    };
-    let Some(step) = words.next() else {
+    let (Some(number), Some(step)) = (words.next(), words.next()) else {
         return Ok(());
     };
     run_only(
@@ -46,13 +35,12 @@ fn main(rt: HostRuntime) -> anyhow::Result<()> {
 }
 
 fn print_all(rt: &HostRuntime, timed: bool) -> anyhow::Result<()> {
-    for number in FIRST..LAST + 1 {
-        if let Some(last) = Relation::of(number) {
-            if timed {
-                print_times(rt, last)?;
-            } else {
-                print_account(rt, last)?;
-            }
+    // Each relation but the first is once the last that has its ties: no case is without rf and co.
+    for last in &Relation::ALL[1..] {
+        if timed {
+            print_times(rt, *last)?;
+        } else {
+            print_account(rt, *last)?;
         }
     }
     Ok(())
@@ -60,77 +48,47 @@ fn print_all(rt: &HostRuntime, timed: bool) -> anyhow::Result<()> {
 
 // Builds a case, writes it, reads that text, and seals and writes it again.
 fn print_account(rt: &HostRuntime, last: Relation) -> anyhow::Result<()> {
-    let mut events = [Event::UNUSED; 64];
-    let mut ties = [0u64; 384];
+    let built = Built::up_to(last).context("not sealed")?;
     let mut buffer = [0u8; ROOM];
+    let text = built.text(&mut buffer);
     let mut back = [0u8; ROOM];
-    let Some(case) = built(last, &mut events, &mut ties) else {
-        return Err(anyhow!("not sealed"));
-    };
-    let bytes = write(&case, &events, &ties, &mut buffer).unwrap_or(0);
-    let text = front(&buffer, bytes);
     let again = retold(text, &mut back);
-    let which = if same(text, front(&back, again)) {
+    let which = if text == front(&back, again) {
         "the same when read and written again"
     } else {
         "other when read and written again"
     };
-    let count = tied(&case, &events, &ties);
-    let name = last.name();
-    println!(rt; "up to {name}: {count} ties, {bytes} bytes, {which}")?;
+    let (count, bytes) = (built.tied(), text.len());
+    println!(rt; "up to {last}: {count} ties, {bytes} bytes, {which}")?;
     Ok(())
 }
 
 fn print_times(rt: &HostRuntime, last: Relation) -> anyhow::Result<()> {
-    let mut events = [Event::UNUSED; 64];
-    let mut ties = [0u64; 384];
+    let built = Built::up_to(last).context("not sealed")?;
     let mut buffer = [0u8; ROOM];
-    let Some(case) = built(last, &mut events, &mut ties) else {
-        return Err(anyhow!("not sealed"));
-    };
+    let text = built.text(&mut buffer);
+    println!(rt; "up to {last}")?;
     let mut back = [0u8; ROOM];
-    let bytes = write(&case, &events, &ties, &mut buffer).unwrap_or(0);
-    let text = front(&buffer, bytes);
-    println!(rt; "up to {}", last.name())?;
-    print_steps(rt, &case, &events, &ties, text, &mut back)
-}
-
-fn print_steps(
-    rt: &HostRuntime,
-    case: &SealedCase,
-    events: &[Event],
-    ties: &[u64],
-    text: &[u8],
-    back: &mut [u8],
-) -> anyhow::Result<()> {
-    for number in 0..STEPS {
-        if let Some(step) = numbered(number) {
-            let start = Instant::now(rt)?;
-            let sum = repeated(step, case, events, ties, text, back);
-            let micros = start.elapsed(rt)?.as_micros() / ROUNDS as u128;
-            // The sum is printed so that no run can be left out.
-            println!(rt; "  {step}: {micros} µs ({sum})")?;
-        }
+    for step in STEPS {
+        let start = Instant::now(rt)?;
+        let sum = repeated(step, &built, text, &mut back);
+        let micros = start.elapsed(rt)?.as_micros() / ROUNDS as u128;
+        // The sum is printed so that no run can be left out.
+        println!(rt; "  {step}: {micros} µs ({sum})")?;
     }
     Ok(())
 }
 
 fn run_only(rt: &HostRuntime, number: u32, step: usize) -> anyhow::Result<()> {
-    let mut events = [Event::UNUSED; 64];
-    let mut ties = [0u64; 384];
-    let mut buffer = [0u8; ROOM];
-    let Some(last) = Relation::of(number) else {
+    let Ok(last) = Relation::try_from(number) else {
         return Ok(());
     };
-    let Some(case) = built(last, &mut events, &mut ties) else {
-        return Err(anyhow!("not sealed"));
-    };
+    let built = Built::up_to(last).context("not sealed")?;
+    let mut buffer = [0u8; ROOM];
+    let text = built.text(&mut buffer);
     let mut back = [0u8; ROOM];
-    let bytes = write(&case, &events, &ties, &mut buffer).unwrap_or(0);
-    if let Some(step) = numbered(step) {
-        let text = front(&buffer, bytes);
-        let sum = repeated(step, &case, &events, &ties, text, &mut back);
-        println!(rt; "{sum}")?;
+    if let Some(step) = STEPS.get(step) {
+        println!(rt; "{}", repeated(*step, &built, text, &mut back))?;
     }
     Ok(())
 }

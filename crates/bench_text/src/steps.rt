@@ -1,15 +1,14 @@
 // What is timed: a step that a text goes through.
+use crate::cases::Built;
 use casetext::reading::read;
-use casewriter::{count_ties, write};
-use executions::{Event, Fault};
-use sources::CaseSource;
+use casewriter::write;
+use executions::Event;
 use std::fmt;
-use tables::SealedCase;
 use textsource::TextSource;
 use wellformed::check;
 
 #[derive(Clone, Copy)]
-pub enum Step {
+pub(crate) enum Step {
     // The text is read into tables.
     Read,
     // The case in the tables is checked, as it is when it is sealed.
@@ -20,54 +19,32 @@ pub enum Step {
     Source,
 }
 
-// How many steps there are.
-pub const STEPS: usize = 4;
-
-// The step of a number.
-pub(crate) fn numbered(number: usize) -> Option<Step> {
-    match number {
-        0 => Some(Step::Read),
-        1 => Some(Step::Check),
-        2 => Some(Step::Write),
-        3 => Some(Step::Source),
-        _ => None,
-    }
-}
+// The steps in their order.
+pub(crate) const STEPS: [Step; 4] = [Step::Read, Step::Check, Step::Write, Step::Source];
 
 impl fmt::Display for Step {
     fn fmt<W: fmt::Write>(&self, f: &mut fmt::Formatter<W>) -> fmt::Result {
-        let name = match self {
+        f.write_str(match self {
             Step::Read => "read",
             Step::Check => "check",
             Step::Write => "write",
             Step::Source => "check of the text source",
-        };
-        write!(f, "{name}")
+        })
     }
 }
 
-// Room for every text.
-pub const ROOM: usize = 65536;
-
 // How often a step is run.
-pub const ROUNDS: u32 = 10;
+pub(crate) const ROUNDS: u32 = 10;
 
-// A step, many times.
-pub(crate) fn repeated(
-    step: Step,
-    case: &SealedCase,
-    events: &[Event],
-    ties: &[u64],
-    text: &[u8],
-    buffer: &mut [u8],
-) -> usize {
+// A step, many times, at a case and its text. A step is an enum, and no closure, since it is printed too.
+pub(crate) fn repeated(step: Step, built: &Built, text: &[u8], buffer: &mut [u8]) -> usize {
     let mut sum: usize = 0;
     for _ in 0..ROUNDS {
         let came = match step {
             Step::Read => read_once(text),
-            Step::Check => checked(case, events, ties).unwrap_or(0),
-            Step::Write => write(case, events, ties, buffer).unwrap_or(0),
-            Step::Source => scanned(text),
+            Step::Check => built.checked().map_or(0, |copy| copy.count()),
+            Step::Write => write(&built.case, &built.events, &built.ties, buffer).unwrap_or(0),
+            Step::Source => check(&TextSource { text }).map_or(0, |copy| copy.count()),
         };
         sum = sum.wrapping_add(came);
     }
@@ -77,23 +54,7 @@ pub(crate) fn repeated(
 fn read_once(text: &[u8]) -> usize {
     let mut events = [Event::UNUSED; 64];
     let mut ties = [0u64; 384];
-    match read(text, &mut events, &mut ties) {
-        Ok(case) => case.count(),
-        Err(_) => 0,
-    }
-}
-
-fn checked<'a>(case: &SealedCase, events: &'a [Event], ties: &'a [u64]) -> Result<usize, Fault> {
-    let source = case.source(events, ties)?;
-    let copy = check(&source)?;
-    Ok(copy.count())
-}
-
-fn scanned(text: &[u8]) -> usize {
-    match check(&TextSource { text }) {
-        Ok(copy) => copy.count(),
-        Err(_) => 0,
-    }
+    read(text, &mut events, &mut ties).map_or(0, |case| case.count())
 }
 
 // Reads a text, seals its case and writes it; how many bytes it wrote, 0 where any of that is refused.
@@ -103,19 +64,8 @@ pub(crate) fn retold(text: &[u8], buffer: &mut [u8]) -> usize {
     let Ok(open) = read(text, &mut events, &mut ties) else {
         return 0;
     };
-    match open.seal(&events, &ties) {
-        Ok(case) => write(&case, &events, &ties, buffer).unwrap_or(0),
-        Err(_) => 0,
-    }
-}
-
-// How many ties a sealed case has.
-pub(crate) fn tied<'a>(case: &SealedCase, events: &'a [Event], ties: &'a [u64]) -> u32 {
-    match case.source(events, ties) {
-        Ok(source) => match check(&source) {
-            Ok(copy) => count_ties(&copy),
-            Err(_) => 0,
-        },
-        Err(_) => 0,
-    }
+    let Ok(case) = open.seal(&events, &ties) else {
+        return 0;
+    };
+    write(&case, &events, &ties, buffer).unwrap_or(0)
 }

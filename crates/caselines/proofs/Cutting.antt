@@ -1,51 +1,27 @@
 -- Where a list is cut, and that the parts make it up again.
-use Rattle.std.proofs.Common.{◌≡◌, ℕ, ◌+◌, ◌<◌, ◌≤◌, Bool, true, false, cond, not, ◌&&◌, eqb, List, [], ◌∷◌, ◌++◌, length, get_or, take, drop, Some, None, Option, sym, refl, ap, ◌∙◌, arith}
-use Rattle.std.proofs.lemmas.List.{append-nil, append_assoc, take_more, drop_more, drop_all}
-use Rattle.std.proofs.lemmas.Bool.{eqb-true, eq-eqb, ne_eqb, and_parts, not-true}
+use Rattle.std.proofs.Common.{◌≡◌, ℕ, ◌+◌, Bool, true, false, cond, not, ◌&&◌, eqb, ltb, List, [], ◌∷◌, ◌++◌, length, take, drop, Some, None, Option, sym, refl, ap, arith}
+use Rattle.std.proofs.lemmas.Bool.{lt-ltb, eqb-true, eq-eqb, and_parts, not-true}
+use Rattle.std.specs.List.{position, position_or_len}
+use Rattle.std.proofs.lemmas.Grind.{common_steps}
+use Rattle.std.proofs.lemmas.Option.{none-some, same_Some}
 use Rattle.caselines.specs.Fields.{behind, cut}
 
--- some bytes in front of the first of two parts
-abbrev pub ahead : List ℕ → Option (List ℕ × List ℕ) → Option (List ℕ × List ℕ)
-ahead l None = None
-ahead l (Some p) = Some (l ++ p.0, p.1)
+-- a list is cut at the first byte that is the stop
+abbrev pub parted : List ℕ → Option ℕ → Option (List ℕ × List ℕ)
+parted bs None = None
+parted bs (Some i) = Some (take i bs, drop (i + 1) bs)
 
--- one byte more
-ahead_behind : (l : List ℕ) (c : ℕ) (o : Option (List ℕ × List ℕ)) → ahead l (behind c o) ≡ ahead (l ++ c ∷ []) o
-ahead_behind l c None = refl
-ahead_behind l c (Some p) = ap (λ (f : List ℕ). Some (f, p.1)) (sym (append_assoc l (c ∷ []) p.0))
-
--- no byte so far is the one to cut at
-pub cut_start : (stop : ℕ) (bs : List ℕ) → cut stop bs ≡ ahead [] (cut stop bs)
-cut_start stop bs = go (cut stop bs)
+pub cut_first : (stop : ℕ) (bs : List ℕ) → cut stop bs ≡ parted bs (position (λ c. eqb c stop) bs)
+unfolding cut
+cut_first stop [] = refl
+cut_first stop (c ∷ cs) = go (eqb c stop) refl (cut_first stop cs)
   where
-    go : (o : Option (List ℕ × List ℕ)) → o ≡ ahead [] o
-    go None = refl
-    go (Some p) = refl
+    one_more : (n : ℕ) → behind c (parted cs (cond (ltb n (length cs)) (Some n) None)) ≡ parted (c ∷ cs) (cond (ltb (1 + n) (length (c ∷ cs))) (Some (1 + n)) None)
+    one_more n = grind (arith, common_steps)
 
-pub cut_more : (stop : ℕ) (bs : List ℕ) (i : ℕ) → i < length bs → (get_or bs i 0 ≡ stop → ⊥) → cut stop bs ≡ ahead (take i bs) (cut stop (drop i bs))
-    → cut stop bs ≡ ahead (take (i + 1) bs) (cut stop (drop (i + 1) bs))
-unfolding cut
-cut_more stop bs i h ne e =
-    e
-    ∙ ap (λ l. ahead (take i bs) (cut stop l)) (drop_more bs i 0 h)
-    ∙ ap (λ (t : Bool). ahead (take i bs) (cond t (Some ([], drop (i + 1) bs)) (behind (get_or bs i 0) (cut stop (drop (i + 1) bs))))) (ne_eqb (get_or bs i 0) stop ne)
-    ∙ ahead_behind (take i bs) (get_or bs i 0) (cut stop (drop (i + 1) bs))
-    ∙ ap (λ l. ahead l (cut stop (drop (i + 1) bs))) (sym (take_more bs i 0 h))
-
--- here it is
-pub cut_here : (stop : ℕ) (bs : List ℕ) (i : ℕ) → i < length bs → get_or bs i 0 ≡ stop → cut stop bs ≡ ahead (take i bs) (cut stop (drop i bs))
-    → cut stop bs ≡ Some (take i bs, drop (i + 1) bs)
-unfolding cut
-cut_here stop bs i h same e =
-    e
-    ∙ ap (λ l. ahead (take i bs) (cut stop l)) (drop_more bs i 0 h)
-    ∙ ap (λ (t : Bool). ahead (take i bs) (cond t (Some ([], drop (i + 1) bs)) (behind (get_or bs i 0) (cut stop (drop (i + 1) bs))))) (eq-eqb (get_or bs i 0) stop same)
-    ∙ ap (λ (l : List ℕ). Some (l, drop (i + 1) bs)) (append-nil (take i bs))
-
--- it is nowhere
-pub cut_nowhere : (stop : ℕ) (bs : List ℕ) (i : ℕ) → length bs ≤ i → cut stop bs ≡ ahead (take i bs) (cut stop (drop i bs)) → cut stop bs ≡ None
-unfolding cut
-cut_nowhere stop bs i h e = e ∙ ap (λ l. ahead (take i bs) (cut stop l)) (drop_all i bs h)
+    go : (t : Bool) → eqb c stop ≡ t → cut stop cs ≡ parted cs (position (λ d. eqb d stop) cs) → cut stop (c ∷ cs) ≡ parted (c ∷ cs) (position (λ d. eqb d stop) (c ∷ cs))
+    go true q later = rw (q, lt-ltb 0 (length (c ∷ cs)) (omega arith)) refl
+    go false q later = rw (q, later) (one_more (position_or_len (λ d. eqb d stop) cs))
 
 -- ---- the parts
 
@@ -66,15 +42,8 @@ cut_append stop (x ∷ l) rest a =
     let parts = and_parts (not (eqb x stop)) (absent stop l) a in
     rw (not-true (eqb x stop) parts.0, cut_append stop l rest parts.1) refl
 
-pub cut_absent : (stop : ℕ) (l : List ℕ) → absent stop l ≡ true → cut stop l ≡ None
-unfolding cut
-cut_absent stop [] a = refl
-cut_absent stop (x ∷ l) a =
-    let parts = and_parts (not (eqb x stop)) (absent stop l) a in
-    rw (not-true (eqb x stop) parts.0, cut_absent stop l parts.1) refl
-
 same_halves : (a b f g : List ℕ) → ◌≡◌ {A = Option (List ℕ × List ℕ)} (Some (a, b)) (Some (f, g)) → (a ≡ f) × (b ≡ g)
-same_halves a b f g e = let pair : ◌≡◌ {A = List ℕ × List ℕ} (a, b) (f, g) = cc in (ap (λ q. q.0) pair, ap (λ q. q.1) pair)
+same_halves a b f g e = let pair = same_Some _ _ e in (ap (λ q. q.0) pair, ap (λ q. q.1) pair)
 
 -- what a cut gives makes up the list
 pub record Halves (stop : ℕ) (bs l rest : List ℕ) : Type 0 where
@@ -83,7 +52,7 @@ pub record Halves (stop : ℕ) (bs l rest : List ℕ) : Type 0 where
 
 pub cut_halves : (stop : ℕ) (bs l rest : List ℕ) → cut stop bs ≡ Some (l, rest) → Halves stop bs l rest
 unfolding cut
-cut_halves stop [] l rest e = let z : ◌≡◌ {A = ℕ} 0 1 = cc in absurd (omega arith)
+cut_halves stop [] l rest e = absurd (none-some _ e)
 cut_halves stop (x ∷ bs) l rest e = go (eqb x stop) refl (cut stop bs) refl e (cut_halves stop bs)
   where
     go : (t : Bool) → eqb x stop ≡ t → (o : Option (List ℕ × List ℕ)) → cut stop bs ≡ o → cond t (Some ([], bs)) (behind x o) ≡ Some (l, rest)
@@ -92,7 +61,7 @@ cut_halves stop (x ∷ bs) l rest e = go (eqb x stop) refl (cut stop bs) refl e 
         let same = eqb-true x stop q in
         let halves = same_halves [] bs l rest k in
         rw (← halves.0, ← halves.1, same) (record { whole = refl; clear = refl })
-    go false q None r k later = let z : ◌≡◌ {A = ℕ} 0 1 = cc in absurd (omega arith)
+    go false q None r k later = absurd (none-some _ k)
     go false q (Some p) r k later =
         let deep = later p.0 p.1 r in
         let halves = same_halves (x ∷ p.0) p.1 l rest k in
@@ -105,6 +74,6 @@ cut_none stop (x ∷ bs) e = go (eqb x stop) refl (cut stop bs) refl e (cut_none
   where
     go : (t : Bool) → eqb x stop ≡ t → (o : Option (List ℕ × List ℕ)) → cut stop bs ≡ o → cond t (Some ([], bs)) (behind x o) ≡ None
         → (cut stop bs ≡ None → absent stop bs ≡ true) → absent stop (x ∷ bs) ≡ true
-    go true q o r k later = let z : ◌≡◌ {A = ℕ} 0 1 = cc in absurd (omega arith)
+    go true q o r k later = absurd (none-some _ (sym k))
     go false q None r k later = rw q (later r)
-    go false q (Some p) r k later = let z : ◌≡◌ {A = ℕ} 0 1 = cc in absurd (omega arith)
+    go false q (Some p) r k later = absurd (none-some _ (sym k))

@@ -1,5 +1,6 @@
 -- The line that bytes spell is the one line with that spelling.
 use Rattle.std.proofs.Common.{◌≡◌, ℕ, ◌<◌, Bool, true, false, cond, List, Some, None, codes, decimal, Option, sym, refl, ap, ◌∙◌, subst, ap₂, arith}
+use Rattle.std.proofs.lemmas.Option.{none-some}
 use Rattle.std.specs.Str.{bytes_eq}
 use Rattle.executions.specs.declared.sorts.Sort.{Sort}
 use Rattle.executions.specs.declared.ties.Relation.{Relation}
@@ -24,7 +25,7 @@ pub record Came {A B : Type 0} (o : Option A) (f : A → Option B) (y : B) : Typ
   pub after : f from ≡ Some y
 
 came : {A B : Type 0} (o : Option A) (f : A → Option B) (y : B) → then o f ≡ Some y → Came o f y
-came None f y e = let z : ◌≡◌ {A = ℕ} 0 1 = cc in absurd (omega arith)
+came None f y e = absurd (none-some _ e)
 came (Some x) f y e = record { from = x; before = refl; after = e }
 
 -- a rest of a line, behind a front, says the line l

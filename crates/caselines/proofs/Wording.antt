@@ -1,8 +1,9 @@
 -- Words: which of some names a word is.
-use Rattle.std.proofs.Common.{◌≡◌, ℕ, Bool, true, false, cond, ◌&&◌, eqb, List, [], ◌∷◌, length, get_or, Some, None, Option, sym, refl, ap, ◌∙◌, arith}
+use Rattle.std.proofs.Common.{◌≡◌, ℕ, Bool, true, false, cond, List, [], ◌∷◌, length, get_or, codes, Some, sym, refl, ap, ◌∙◌, arith}
+use Rattle.std.proofs.lemmas.Option.{none-some, same_Some}
+use Rattle.std.specs.List.{find}
 use Rattle.std.specs.Str.{bytes_eq}
 use Rattle.std.proofs.lemmas.Slice.Eq.{bytes_eq-Decides}
-use Rattle.std.proofs.lemmas.Bool.{ne_eqb}
 use Rattle.executions.specs.declared.sorts.Sort.{Sort}
 use Rattle.executions.specs.declared.sorts.Sort.TheVariants.{ReadOnce, ReadAcquire, WriteOnce, WriteRelease, Rmb, Wmb, Mb, RbDep, RcuLock, RcuUnlock, SyncRcu, Blank}
 use Rattle.executions.specs.declared.ties.Relation.{Relation}
@@ -11,7 +12,7 @@ use Rattle.executions.specs.Ties.{relation_name}
 use Rattle.caselines.specs.declared.lines.Letter.{Letter}
 use Rattle.caselines.specs.declared.lines.Letter.TheVariants.{Read, Write, Fence}
 use Rattle.caselines.specs.Fields.{called}
-use Rattle.caselines.specs.Lines.{letter, mark, letters, letter_name, sorts_of}
+use Rattle.caselines.specs.Lines.{letter, mark, letter_name, sorts_of}
 use Rattle.caselines.proofs.Cutting.{absent}
 
 pub same_word : (a b : List ℕ) → bytes_eq a b ≡ true → a ≡ b
@@ -19,12 +20,28 @@ same_word a b e = (bytes_eq-Decides a b).0 e
 
 -- what is called by a word has the word for its name
 pub called_name : {E : Type 0} (name : E → List ℕ) (es : List E) (w : List ℕ) (e : E) → called name es w ≡ Some e → w ≡ name e
-called_name name [] w e h = let z : ◌≡◌ {A = ℕ} 0 1 = cc in absurd (omega arith)
+called_name name [] w e h = absurd (none-some _ h)
 called_name name (x ∷ xs) w e h = go (bytes_eq w (name x)) refl h (called_name name xs w e)
   where
     go : (t : Bool) → bytes_eq w (name x) ≡ t → cond t (Some x) (called name xs w) ≡ Some e → (called name xs w ≡ Some e → w ≡ name e) → w ≡ name e
-    go true q k later = let same : x ≡ e = cc in same_word w (name x) q ∙ ap name same
+    go true q k later = let same = same_Some x e k in same_word w (name x) q ∙ ap name same
     go false q k later = later k
+
+-- it is the first that has the name
+pub called_find : {E : Type 0} (name : E → List ℕ) (es : List E) (w : List ℕ) → find (λ e. bytes_eq w (name e)) es ≡ called name es w
+called_find name [] w = refl
+called_find name (e ∷ es) w = rw (called_find name es w) refl
+
+-- the bytes of the word of the count of events
+pub spells_events : (w : List ℕ) → length w ≡ 6 → get_or w 0 0 ≡ 101 → get_or w 1 0 ≡ 118 → get_or w 2 0 ≡ 101 → get_or w 3 0 ≡ 110 → get_or w 4 0 ≡ 116 → get_or w 5 0 ≡ 115 → w ≡ codes "events"
+spells_events (a ∷ (b ∷ (c ∷ (d ∷ (e ∷ (f ∷ [])))))) h p q r s t u = rw (p, q, r, s, t, u) refl
+spells_events [] h p q r s t u = absurd (omega arith)
+spells_events (a ∷ []) h p q r s t u = absurd (omega arith)
+spells_events (a ∷ (b ∷ [])) h p q r s t u = absurd (omega arith)
+spells_events (a ∷ (b ∷ (c ∷ []))) h p q r s t u = absurd (omega arith)
+spells_events (a ∷ (b ∷ (c ∷ (d ∷ [])))) h p q r s t u = absurd (omega arith)
+spells_events (a ∷ (b ∷ (c ∷ (d ∷ (e ∷ []))))) h p q r s t u = absurd (omega arith)
+spells_events (a ∷ (b ∷ (c ∷ (d ∷ (e ∷ (f ∷ (g ∷ w))))))) h p q r s t u = absurd (omega arith)
 
 -- all of some things have the value y
 abbrev pub AllAre : {E Y : Type 0} → (E → Y) → Y → List E → Type 0
@@ -32,11 +49,11 @@ AllAre f y [] = Unit {0}
 AllAre f y (e ∷ es) = (f e ≡ y) × AllAre f y es
 
 pub called_are : {E Y : Type 0} (f : E → Y) (y : Y) (name : E → List ℕ) (es : List E) (w : List ℕ) (e : E) → AllAre f y es → called name es w ≡ Some e → f e ≡ y
-called_are f y name [] w e a h = let z : ◌≡◌ {A = ℕ} 0 1 = cc in absurd (omega arith)
+called_are f y name [] w e a h = absurd (none-some _ h)
 called_are f y name (x ∷ xs) w e a h = go (bytes_eq w (name x)) h (called_are f y name xs w e a.1)
   where
     go : (t : Bool) → cond t (Some x) (called name xs w) ≡ Some e → (called name xs w ≡ Some e → f e ≡ y) → f e ≡ y
-    go true k later = let same : x ≡ e = cc in ap f (sym same) ∙ a.0
+    go true k later = let same = same_Some x e k in ap f (sym same) ∙ a.0
     go false k later = later k
 
 -- a sort that is called among those of a letter has the letter
@@ -87,30 +104,3 @@ name_clear Addr = (refl, refl)
 name_clear Data = (refl, refl)
 name_clear Ctrl = (refl, refl)
 name_clear Rmw = (refl, refl)
-
--- ---- letters
-
-both_false : (t : Bool) → (t && false) ≡ false
-both_false true = refl
-both_false false = refl
-
-both_true : (t : Bool) → (t && true) ≡ t
-both_true true = refl
-both_true false = refl
-
--- a word of one byte is a letter by that byte, and no other word is one
-abbrev pub letter_byte : ℕ → Option Letter
-letter_byte c = cond (eqb c 82) (Some Read) (cond (eqb c 87) (Some Write) (cond (eqb c 70) (Some Fence) None))
-
-pub by_byte : (w : List ℕ) → length w ≡ 1 → called letter_name letters w ≡ letter_byte (get_or w 0 0)
-by_byte [] h = absurd (omega arith)
-by_byte (x ∷ []) h = rw (both_true (eqb x 82), both_true (eqb x 87), both_true (eqb x 70)) refl
-by_byte (x ∷ (y ∷ w)) h = absurd (omega arith)
-
-pub no_letter : (w : List ℕ) → (length w ≡ 1 → ⊥) → called letter_name letters w ≡ None
-no_letter [] h = refl
-no_letter (x ∷ []) h = absurd (h refl)
-no_letter (x ∷ (y ∷ w)) h = rw (both_false (eqb x 82), both_false (eqb x 87), both_false (eqb x 70)) refl
-
-pub other_byte : (c : ℕ) → (c ≡ 82 → ⊥) → (c ≡ 87 → ⊥) → (c ≡ 70 → ⊥) → letter_byte c ≡ None
-other_byte c p q r = rw (ne_eqb c 82 p, ne_eqb c 87 q, ne_eqb c 70 r) refl

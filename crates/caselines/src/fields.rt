@@ -1,5 +1,5 @@
 // The parts of a line: fields that one space parts, decimal numbers, and words.
-ghost use Rattle.std.specs.Prelude.{◌≡◌, ◌&&◌, length, Some, None, MatchOption, ◌==◌, nat_lt, slice_index};
+ghost use Rattle.std.specs.Prelude.{◌≡◌, ◌&&◌, length, Some, None, MatchOption, ◌==◌, nat_lt, slice_index, position};
 ghost use Rattle.std.specs.Str.{bytes_eq};
 ghost use Rattle.caselines.specs.Fields.{cut as cut_at, number_of};
 
@@ -7,12 +7,15 @@ ghost use Rattle.caselines.specs.Fields.{cut as cut_at, number_of};
 pub fn cut(bytes: &[u8], stop: u8) -> Option<(&[u8], &[u8])>
     ensures { MatchOption result (cut_at stop bytes.now ≡ None) (λ p. cut_at stop bytes.now ≡ Some (p.0.now, p.1.now)) }
 {
-    for i in 0..bytes.len() {
-        if bytes[i] == stop {
-            return Some((&bytes[0..i], &bytes[i + 1..]));
-        }
-    }
-    None
+    let end = first(bytes, stop)?;
+    Some((&bytes[..end], &bytes[end + 1..]))
+}
+
+// Where a byte stands first.
+fn first(bytes: &[u8], sought: u8) -> Option<usize>
+    ensures { result ≡ position (λ b. b == sought) bytes.now }
+{
+    bytes.iter().position(|byte| *byte == sought)
 }
 
 // Whether two texts have the same bytes.
@@ -29,20 +32,15 @@ const LONGEST: usize = 5;
 pub fn number(field: &[u8]) -> Option<u32>
     ensures { result ≡ number_of field.now }
 {
-    let digits = field.len();
-    if digits < 1 || digits > LONGEST {
-        return None;
-    }
-    if leads_with_zero(field) {
+    if field.is_empty() || field.len() > LONGEST || leads_with_zero(field) {
         return None;
     }
     let mut n = 0u32;
-    for i in 0..digits {
-        let digit = field[i];
-        if digit < b'0' || digit > b'9' {
+    for digit in field {
+        if !digit.is_ascii_digit() {
             return None;
         }
-        n = 10 * n + (digit - b'0') as u32;
+        n = 10 * n + u32::from(digit - b'0');
     }
     Some(n)
 }

@@ -4,5 +4,6 @@
 pub mod fields;
 pub mod lines;
 pub mod reading;
+pub mod words;
 
 pub use lines::{Letter, Line};

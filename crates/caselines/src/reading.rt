@@ -7,6 +7,7 @@ ghost use Rattle.caselines.specs.Lines.{mark, letters, letter_name, sorts_of, ac
 
 use crate::fields::{cut, number, same};
 use crate::lines::{Letter, Line};
+use crate::words::{called, sorts};
 use executions::{Relation, Sort};
 
 // The line that bytes spell, without the byte 10 at its end; None where they spell none.
@@ -22,18 +23,16 @@ pub fn read_line(bytes: &[u8]) -> Option<Line>
 fn line_from(word: &[u8], rest: &[u8]) -> Option<Line>
     ensures { result ≡ line_from word.now rest.now }
 {
-    if same(word, b"events") {
-        return Some(Line::Events(number(rest)?));
-    }
-    if same(word, b"ties") {
-        return Some(Line::Ties(number(rest)?));
-    }
-    match letter_named(word) {
-        Some(letter) => {
-            let (thread, rest) = cut(rest, b' ')?;
-            event_from(letter, number(thread)?, rest)
-        }
-        None => tie_from(relation_named(word)?, rest),
+    match word {
+        b"events" => number(rest).map(Line::Events),
+        b"ties" => number(rest).map(Line::Ties),
+        _ => match letter_named(word) {
+            Some(letter) => {
+                let (thread, rest) = cut(rest, b' ')?;
+                event_from(letter, number(thread)?, rest)
+            }
+            None => tie_from(relation_named(word)?, rest),
+        },
     }
 }
 
@@ -41,10 +40,10 @@ fn line_from(word: &[u8], rest: &[u8]) -> Option<Line>
 fn letter_named(word: &[u8]) -> Option<Letter>
     ensures { result ≡ called letter_name letters word.now }
 {
-    if word.len() != 1 {
+    let [byte] = word else {
         return None;
-    }
-    match char::from(word[0]) {
+    };
+    match char::from(*byte) {
         'R' => Some(Letter::Read),
         'W' => Some(Letter::Write),
         'F' => Some(Letter::Fence),
@@ -57,9 +56,8 @@ fn event_from(letter: Letter, thread: u32, rest: &[u8]) -> Option<Line>
     ensures { result ≡ event_from letter thread rest.now }
 {
     match letter {
-        Letter::Read => access_from(Letter::Read, thread, rest),
-        Letter::Write => access_from(Letter::Write, thread, rest),
-        Letter::Fence => Some(Line::Event(fence_named(rest)?, thread, 0)),
+        Letter::Read | Letter::Write => access_from(letter, thread, rest),
+        Letter::Fence => Some(Line::Event(sort_named(Letter::Fence, rest)?, thread, 0)),
     }
 }
 
@@ -84,87 +82,11 @@ fn tie_from(relation: Relation, rest: &[u8]) -> Option<Line>
 fn sort_named(letter: Letter, word: &[u8]) -> Option<Sort>
     ensures { result ≡ called mark (sorts_of letter) word.now }
 {
-    match letter {
-        Letter::Read => read_named(word),
-        Letter::Write => write_named(word),
-        Letter::Fence => fence_named(word),
-    }
-}
-
-fn read_named(word: &[u8]) -> Option<Sort>
-    ensures { result ≡ called mark (sorts_of Read) word.now }
-{
-    if same(word, b"once") {
-        return Some(Sort::ReadOnce);
-    }
-    if same(word, b"acquire") {
-        return Some(Sort::ReadAcquire);
-    }
-    None
-}
-
-fn write_named(word: &[u8]) -> Option<Sort>
-    ensures { result ≡ called mark (sorts_of Write) word.now }
-{
-    if same(word, b"once") {
-        return Some(Sort::WriteOnce);
-    }
-    if same(word, b"release") {
-        return Some(Sort::WriteRelease);
-    }
-    None
-}
-
-fn fence_named(word: &[u8]) -> Option<Sort>
-    ensures { result ≡ called mark (sorts_of Fence) word.now }
-{
-    if same(word, b"rmb") {
-        return Some(Sort::Rmb);
-    }
-    if same(word, b"wmb") {
-        return Some(Sort::Wmb);
-    }
-    if same(word, b"mb") {
-        return Some(Sort::Mb);
-    }
-    if same(word, b"rb-dep") {
-        return Some(Sort::RbDep);
-    }
-    if same(word, b"rcu-lock") {
-        return Some(Sort::RcuLock);
-    }
-    if same(word, b"rcu-unlock") {
-        return Some(Sort::RcuUnlock);
-    }
-    if same(word, b"sync-rcu") {
-        return Some(Sort::SyncRcu);
-    }
-    if same(word, b"blank") {
-        return Some(Sort::Blank);
-    }
-    None
+    called(sorts(letter), word)
 }
 
 fn relation_named(word: &[u8]) -> Option<Relation>
     ensures { result ≡ called relation_name relations word.now }
 {
-    if same(word, b"rf") {
-        return Some(Relation::Rf);
-    }
-    if same(word, b"co") {
-        return Some(Relation::Co);
-    }
-    if same(word, b"addr") {
-        return Some(Relation::Addr);
-    }
-    if same(word, b"data") {
-        return Some(Relation::Data);
-    }
-    if same(word, b"ctrl") {
-        return Some(Relation::Ctrl);
-    }
-    if same(word, b"rmw") {
-        return Some(Relation::Rmw);
-    }
-    None
+    called(&Relation::ALL, word)
 }

@@ -5,11 +5,11 @@ use Rattle.executions.specs.declared.events.Event.{Event}
 use Rattle.executions.specs.declared.faults.Cause.TheVariants.{TooShort, TooManyEvents, OutOfRange, NoSuchEvent, NoSuchRelation, DoesNotFit, OverLimit}
 use Rattle.executions.specs.declared.faults.Fault.{Fault}
 use Rattle.executions.specs.declared.ties.Relation.{Relation}
-use Rattle.executions.specs.declared.ties.Relation.TheVariants.{Rf, Co, Addr, Data, Ctrl, Rmw}
 use Rattle.executions.specs.Events.{in_range}
 use Rattle.executions.specs.Execution.{count, event_at}
 use Rattle.executions.specs.Ties.{relation_number, relation_of, fits}
 use Rattle.tables.specs.Plain.{Plain, short, refusal, refused, entered, enter_plain, taken, tied, tie_known, tie_plain}
+use Rattle.executions.proofs.Words.{relation_found}
 
 -- a test whose failure is a refusal was passed
 pub record Passed {A : Type 0} (t : Bool) (x y : Plain × Result A Fault) (a : A) : Type 0 where
@@ -41,14 +41,6 @@ enter_accepted records words e p n h =
     }
 
 -- ---- ties
-
-pub relation_found : (r : Relation) → relation_of (relation_number r) ≡ Some r
-relation_found Rf = refl
-relation_found Co = refl
-relation_found Addr = refl
-relation_found Data = refl
-relation_found Ctrl = refl
-relation_found Rmw = refl
 
 -- tie, with its tests in one row
 abbrev pub tie_tests : ℕ → ℕ → Relation → ℕ → ℕ → Plain → Plain × Result (Unit {0}) Fault

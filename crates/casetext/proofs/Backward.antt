@@ -232,7 +232,7 @@ pub record Text (bs : List ℕ) (q : Plain) : Type 0 where
   pub whole : bs ≡ text_of q.execution
   pub case : Case q.execution
 
-no_case : (f : TextFault) (q : Plain) → ◌≡◌ {A = Result Plain TextFault} (Err f) (Ok q) → ⊥
+pub no_case : (f : TextFault) (q : Plain) → ◌≡◌ {A = Result Plain TextFault} (Err f) (Ok q) → ⊥
 no_case f q e = let z : ◌≡◌ {A = ℕ} 0 1 = cc in absurd (omega arith)
 
 -- at the end

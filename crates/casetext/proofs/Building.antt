@@ -13,7 +13,7 @@ use Rattle.executions.specs.Execution.{Execution, count, event_at}
 use Rattle.executions.specs.Ties.{relation_number, relation_of, fits}
 use Rattle.tables.specs.Plain.{blank, full, taken, pair}
 use Rattle.casetext.specs.Entered.{Case, Stands}
-use Rattle.casetext.proofs.Accepting.{relation_found}
+use Rattle.executions.proofs.Words.{relation_found}
 
 abbrev pub NoTies : Execution → Type 0
 NoTies x = (r : Relation) (a b : ℕ) → x.ties r a b ≡ false

@@ -1,5 +1,6 @@
 -- What calls do, one after another.
-use Rattle.std.proofs.Common.{◌≡◌, ℕ, ◌+◌, ◌-◌, ◌<◌, ◌≤◌, eqb, ltb, List, length, take, drop, Some, None, Ok, Err, Option, Result, sym, refl, ap, ◌∙◌, subst, arith}
+use Rattle.std.proofs.Common.{true≢false, ◌≡◌, ℕ, ◌+◌, ◌-◌, ◌<◌, ◌≤◌, eqb, ltb, List, length, take, drop, Some, None, Ok, Err, Option, Result, sym, refl, ap, ◌∙◌, subst, arith}
+use Rattle.std.specs.Result.{is_ok}
 use Rattle.std.proofs.lemmas.List.{length-take, drop-set-lt}
 use Rattle.std.proofs.lemmas.Bool.{cond-true, cond-false, ne_eqb, le-ltb, lt-ltb}
 use Rattle.rows.specs.Row.{adding}
@@ -45,6 +46,11 @@ alike f g t t' r e d = record {
 }
 
 -- ---- entries
+
+-- an answer whose fault was turned into another and that was still accepted
+pub accepted_as : {A E D : Type 0} (o : Result A E) (v : Result A D) (x : A) → v ≡ Ok x → is_ok v ≡ is_ok o → (y : A) × (o ≡ Ok y)
+accepted_as (Ok y) v x e same = (y, refl)
+accepted_as (Err f) v x e same = absurd (true≢false (rw e at same))
 
 -- what enter did, beside its line
 pub enter_located : (records words line n : ℕ) (e : Event) (t t' : Tables) → Does (enter_plain records words e) t t' (Ok n) → Does (λ p. located line (enter_plain records words e p)) t t' (Ok tt)

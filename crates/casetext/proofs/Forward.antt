@@ -62,7 +62,7 @@ clear_line (Ties n) h = clear_spaced (codes "ties") (decimal n) refl (clear_numb
 clear_line (Tie r a b) h =
     clear_spaced (relation_name r) _ (name_clear r).1 (clear_spaced (decimal a) (decimal b) (clear_number a h.0) (clear_number b h.1))
 
-joined_append : {X A : Type 0} (f : X → List A) (xs ys : List X) → flat_map f (xs ++ ys) ≡ flat_map f xs ++ flat_map f ys
+pub joined_append : {X A : Type 0} (f : X → List A) (xs ys : List X) → flat_map f (xs ++ ys) ≡ flat_map f xs ++ flat_map f ys
 joined_append f [] ys = refl
 joined_append f (x ∷ xs) ys = ap (λ l. f x ++ l) (joined_append f xs ys) ∙ sym (append_assoc (f x) (flat_map f xs) (flat_map f ys))
 

@@ -3,8 +3,8 @@ mod Doing
 mod Scanning
 mod Looping
 mod Refusing
-mod Listing
+pub mod Listing
 mod Building
 mod Backward
-mod Forward
+pub mod Forward
 pub mod Roundtrip

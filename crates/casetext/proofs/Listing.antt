@@ -6,13 +6,12 @@ use Rattle.executions.specs.declared.ties.Relation.{Relation}
 use Rattle.executions.specs.Execution.{Execution, Ties, count}
 use Rattle.executions.specs.Ties.{relations, relation_number, relation_of}
 use Rattle.executions.proofs.Numbers.{numbered_found}
-use Rattle.executions.proofs.Words.{number_range}
+use Rattle.executions.proofs.Words.{number_range, relation_found}
 use Rattle.tables.specs.Plain.{pair}
 use Rattle.caselines.specs.declared.lines.Line.{Line}
 use Rattle.caselines.specs.declared.lines.Line.TheVariants.{Tie}
 use Rattle.casetext.specs.Text.{tie_lines, ties_below}
 use Rattle.casetext.specs.Reading.{rank}
-use Rattle.casetext.proofs.Accepting.{relation_found}
 
 -- the line of a tie that a case of n events may have
 abbrev pub line_if : ℕ → Ties → Relation → ℕ → ℕ → List Line

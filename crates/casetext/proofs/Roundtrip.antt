@@ -11,18 +11,15 @@ use Rattle.casetext.specs.Text.{text_of}
 use Rattle.casetext.specs.Reading.{text_fault, start, scan, read_plain, Reads}
 use Rattle.casetext.specs.Entered.{Case}
 use Rattle.casetext.specs.Promises.{opened, Spells}
-use Rattle.casetext.proofs.Backward.{Text, read_back}
+use Rattle.casetext.proofs.Backward.{Text, read_back, no_case}
 use Rattle.casetext.proofs.Forward.{forward}
-
-refused : (f : TextFault) (p : Plain) → ◌≡◌ {A = Result Plain TextFault} (Err f) (Ok p) → ⊥
-refused f p e = let z : ◌≡◌ {A = ℕ} 0 1 = cc in absurd (omega arith)
 
 -- a text that is accepted
 pub read_text : (records words : ℕ) (bs : List ℕ) (p : Plain) → read_plain records words bs ≡ Ok p → Text bs p
 read_text records words bs p e = go (short records words) e
   where
     go : (b : Bool) → cond b (Err (text_fault TooShort 0)) (scan records words start blank [] bs) ≡ Ok p → Text bs p
-    go true k = absurd (refused _ p k)
+    go true k = absurd (no_case _ p k)
     go false k = read_back records words bs p k
 
 pub read_is_text : (records words : ℕ) (bs : List ℕ) (x : Execution) → read_plain records words bs ≡ Ok (opened x) → Case x × (bs ≡ text_of x)
@@ -46,5 +43,5 @@ spells bs rs ws rs' ws' (Ok c) read = record {
 spells bs rs ws rs' ws' (Err f) read = record {
   only_texts = λ d e. let z : ◌≡◌ {A = ℕ} 0 1 = cc in absurd (omega arith);
   all_texts = λ x case e long.
-      absurd (refused f (opened x) (sym read.0 ∙ ap (read_plain (length rs) (length ws)) e ∙ text_read (length rs) (length ws) x long case));
+      absurd (no_case f (opened x) (sym read.0 ∙ ap (read_plain (length rs) (length ws)) e ∙ text_read (length rs) (length ws) x long case));
 }

@@ -23,11 +23,12 @@ fn take_lines(
 {
     let mut reader = first();
     let mut rest = text;
+    // What has no byte 10 at its end is no line and is left in `rest`, which an iterator over lines would not show.
     while let Some((bytes, after)) = cut(rest, b'\n') {
         reader = take_line(reader, bytes, case, events, ties)?;
         rest = after;
     }
-    if is_done(reader) && rest.len() == 0 {
+    if is_done(reader) && rest.is_empty() {
         Ok(())
     } else {
         Err(text_fault(Cause::LineForm, reader.line))
@@ -65,7 +66,7 @@ pub fn read(text: &[u8], events: &mut [Event], ties: &mut [u64]) -> Result<OpenC
     read_into(text, events, ties)
 }
 
-// Opens the tables, takes the lines, and opens them anew where a line is refused.
+// Opens the tables, takes the lines, and opens them anew where a line is refused: so a match, and no `?`.
 fn read_into(text: &[u8], events: &mut [Event], ties: &mut [u64]) -> Result<OpenCase, TextFault>
     ensures { Reads text.now events.old ties.old events.new ties.new result }
 {

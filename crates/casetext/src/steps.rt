@@ -1,4 +1,8 @@
 // The steps of reading: what one line does to the case.
+// The case and its tables are passed one by one, since by its type each step then says which of the three it may write;
+// one struct of three `&mut` would leave that to every contract.
+// Each step that goes on to the next line takes its number with the bound: as a ghost field of the reader it would ask instead,
+// of each step that counts, that the count has at most five digits.
 ghost use Rattle.std.specs.Prelude.{◌≡◌, ◌+◌, ◌^◌, ◌<◌, min, length, drop};
 ghost use Rattle.executions.specs.Ties.{relation_number};
 ghost use Rattle.tables.specs.Plain.{Plain, enter_plain, tie_plain};
@@ -8,18 +12,14 @@ ghost use Rattle.casetext.specs.Reading.{moved, rank, record_of, text_fault, loc
 use crate::kinds::{Located, Reader, Section, TextFault};
 use caselines::Line;
 use caselines::reading::read_line;
-use executions::{Cause, Event, Fault, Layer, Relation, Sort};
+use executions::{Cause, Event, Layer, Relation, Sort};
 use tables::OpenCase;
 
 // A fault of the text itself.
 pub(crate) fn text_fault(cause: Cause, place: u32) -> TextFault
     ensures { result ≡ text_fault cause place }
 {
-    TextFault::Text(Fault {
-        cause,
-        layer: Layer::Text,
-        place,
-    })
+    TextFault::Text(Layer::Text.fault(cause, place))
 }
 
 // The reader at the next line.
@@ -39,24 +39,21 @@ fn moved(reader: Reader, section: Section, left: u32, least: u64) -> Reader
 fn byte(n: u32) -> u8
     ensures { result ≡ min n 255 }
 {
-    if n < 255 { n as u8 } else { 255 }
+    n.min(255) as u8
 }
 
 fn record_of(sort: Sort, thread: u32, place: u32) -> Event
     ensures { result ≡ record_of sort thread place }
 {
-    Event {
-        thread: byte(thread),
-        sort: sort.number(),
-        place: byte(place),
-    }
+    Event::of(byte(thread), sort, byte(place))
 }
 
 // Where a tie stands in the order of the tie lines.
 fn rank(relation: Relation, first: u32, second: u32) -> u64
-    ensures { (result ≡ rank relation first second) × (result < 2 ^ 63) }
+    ensures value { result ≡ rank relation first second }
+    ensures bound { result < 2 ^ 63 }
 {
-    (relation.number() as u64 * 100000 + first as u64) * 100000 + second as u64
+    (u64::from(relation.number()) * 100000 + u64::from(first)) * 100000 + u64::from(second)
 }
 
 // Enters the event of a line.
@@ -70,10 +67,9 @@ fn enter_at(
     ensures does { Does (λ p. located line (enter_plain (length events.old) (length ties.now) event p)) (tables case.old events.old ties.now) (tables case.new events.new ties.now) result }
     ensures tail { drop 64 events.new ≡ drop 64 events.old }
 {
-    match case.enter(events, ties, event) {
-        Ok(_) => Ok(()),
-        Err(fault) => Err(Located { fault, line }),
-    }
+    case.enter(events, ties, event)
+        .map_err(|fault| Located { fault, line })?;
+    Ok(())
 }
 
 // Adds the tie of a line.
@@ -89,10 +85,9 @@ fn tie_at(
     ensures does { Does (λ p. located line (tie_plain (length events.now) (length ties.old) (relation_number relation) first second p)) (tables case.now events.now ties.old) (tables case.now events.now ties.new) result }
     ensures tail { drop 384 ties.new ≡ drop 384 ties.old }
 {
-    match case.tie(events, ties, relation.number() as u32, first, second) {
-        Ok(_) => Ok(()),
-        Err(fault) => Err(Located { fault, line }),
-    }
+    case.tie(events, ties, u32::from(relation.number()), first, second)
+        .map_err(|fault| Located { fault, line })?;
+    Ok(())
 }
 
 // An event line, while lines are left.

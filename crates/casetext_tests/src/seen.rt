@@ -1,14 +1,12 @@
-// What read says to a text.
+// What read says to a text. Causes and layers are asked for by their published numbers.
 use casetext::TextFault;
 use casetext::reading::read;
-use executions::Event;
+use executions::{Event, Fault};
 
 // Whether a text is refused by itself: cause and line.
 pub(crate) fn unread(text: &[u8], cause: u8, line: u32) -> bool {
     match refusal(text) {
-        Some(TextFault::Text(fault)) => {
-            fault.number() == cause && fault.layer_number() == 3 && fault.place == line
-        }
+        Some(TextFault::Text(fault)) => says(fault, cause, 3, line),
         _ => false,
     }
 }
@@ -16,29 +14,23 @@ pub(crate) fn unread(text: &[u8], cause: u8, line: u32) -> bool {
 // Whether a text is refused by an entry: cause, place and line.
 pub(crate) fn unentered(text: &[u8], cause: u8, place: u32, line: u32) -> bool {
     match refusal(text) {
-        Some(TextFault::Entry(fault, at)) => {
-            fault.number() == cause
-                && fault.layer_number() == 1
-                && fault.place == place
-                && at == line
-        }
+        Some(TextFault::Entry(fault, at)) => says(fault, cause, 1, place) && at == line,
         _ => false,
     }
 }
 
 // Whether a text is read.
 pub(crate) fn is_read(text: &[u8]) -> bool {
-    match refusal(text) {
-        Some(_) => false,
-        None => true,
-    }
+    refusal(text).is_none()
 }
 
 fn refusal(text: &[u8]) -> Option<TextFault> {
     let mut events = [Event::UNUSED; 64];
     let mut ties = [0u64; 384];
-    match read(text, &mut events, &mut ties) {
-        Ok(_) => None,
-        Err(fault) => Some(fault),
-    }
+    read(text, &mut events, &mut ties).err()
+}
+
+// Whether a fault has these numbers.
+pub(crate) fn says(fault: Fault, cause: u8, layer: u8, place: u32) -> bool {
+    fault.number() == cause && fault.layer_number() == layer && fault.place == place
 }

@@ -1,7 +1,7 @@
 // Texts that are read, asked and written back.
 use crate::seen::is_read;
 use casewriter::write_snapshot;
-use executions::{Event, Relation};
+use executions::{Event, Relation, Sort};
 use sources::{CaseSource, Snapshot};
 use std::test::Fail;
 use textsource::TextSource;
@@ -23,14 +23,7 @@ fn accepted(rt: HostRuntime) {
 fn asked(rt: HostRuntime) {
     let source = TextSource { text: MESSAGE };
     assert_eq!(rt; source.count(), 8);
-    assert_eq!(rt;
-        source.event(3),
-        Some(Event {
-            thread: 1,
-            sort: 6,
-            place: 0,
-        })
-    );
+    assert_eq!(rt; source.event(3), Some(Event::of(1, Sort::Wmb, 0)));
     assert_eq!(rt; source.event(8), None);
     assert_eq!(rt; source.row(Relation::Rf.number() as u32, 0), 128);
     assert_eq!(rt; source.row(Relation::Co.number() as u32, 1), 16);
@@ -40,16 +33,12 @@ fn asked(rt: HostRuntime) {
 #[test]
 fn written_back(rt: HostRuntime) -> Result<(), Fail> {
     let source = TextSource { text: MESSAGE };
-    let Some(copy) = Snapshot::of(&source) else {
-        return Err(Fail::new("more than 64 events"));
-    };
+    let copy = Snapshot::of(&source).ok_or("more than 64 events")?;
     let mut buffer = [7u8; 200];
     let length = write_snapshot(&copy, &mut buffer).ok_or("too short")?;
     assert_eq!(rt; length, MESSAGE.len());
-    for i in 0..MESSAGE.len() {
-        assert!(rt; i < 200 && buffer[i] == MESSAGE[i]);
-    }
-    assert!(rt; MESSAGE.len() < 200 && buffer[MESSAGE.len()] == 7);
+    assert!(rt; buffer.starts_with(MESSAGE));
+    assert_eq!(rt; buffer.get(MESSAGE.len()), Some(&7));
     let mut small = [7u8; 20];
     assert_eq!(rt; write_snapshot(&copy, &mut small), None);
     assert_eq!(rt; small[0], 7);

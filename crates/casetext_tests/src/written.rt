@@ -1,7 +1,8 @@
 // Sealed cases that are written, and what write refuses.
+use crate::seen::says;
 use casetext::reading::read;
 use casewriter::write;
-use executions::{Event, Fault};
+use executions::{Event, Fault, Relation, Sort};
 use std::test::Fail;
 use tables::{OpenCase, SealedCase};
 
@@ -14,12 +15,10 @@ const BYTES: usize = 63;
 fn an_exact_buffer(rt: HostRuntime) -> Result<(), Fail> {
     let mut events = [Event::UNUSED; 64];
     let mut ties = [0u64; 384];
-    let Some(case) = sealed(OWN, &mut events, &mut ties) else {
-        return Err(Fail::new("not sealed"));
-    };
+    let case = sealed(OWN, &mut events, &mut ties).ok_or("not sealed")?;
     let mut buffer = [7u8; BYTES];
     assert_eq!(rt; write(&case, &events, &ties, &mut buffer).ok(), Some(BYTES));
-    assert!(rt; same(&buffer, OWN), "the text that was read");
+    assert!(rt; buffer.as_slice() == OWN, "the text that was read");
     Ok(())
 }
 
@@ -27,12 +26,10 @@ fn an_exact_buffer(rt: HostRuntime) -> Result<(), Fail> {
 fn a_longer_buffer(rt: HostRuntime) -> Result<(), Fail> {
     let mut events = [Event::UNUSED; 64];
     let mut ties = [0u64; 384];
-    let Some(case) = sealed(OWN, &mut events, &mut ties) else {
-        return Err(Fail::new("not sealed"));
-    };
+    let case = sealed(OWN, &mut events, &mut ties).ok_or("not sealed")?;
     let mut buffer = [7u8; BYTES + 2];
     assert_eq!(rt; write(&case, &events, &ties, &mut buffer).ok(), Some(BYTES));
-    assert!(rt; same(&buffer[0..BYTES], OWN), "the text that was read");
+    assert!(rt; &buffer[0..BYTES] == OWN, "the text that was read");
     assert!(rt;
         buffer[BYTES] == 7 && buffer[BYTES + 1] == 7,
         "the rest stays"
@@ -44,9 +41,7 @@ fn a_longer_buffer(rt: HostRuntime) -> Result<(), Fail> {
 fn a_byte_short(rt: HostRuntime) -> Result<(), Fail> {
     let mut events = [Event::UNUSED; 64];
     let mut ties = [0u64; 384];
-    let Some(case) = sealed(OWN, &mut events, &mut ties) else {
-        return Err(Fail::new("not sealed"));
-    };
+    let case = sealed(OWN, &mut events, &mut ties).ok_or("not sealed")?;
     let mut buffer = [7u8; BYTES - 1];
     let answer = write(&case, &events, &ties, &mut buffer);
     assert!(rt; refused(answer, 15, 3, 0), "no room");
@@ -59,9 +54,7 @@ fn a_byte_short(rt: HostRuntime) -> Result<(), Fail> {
 fn short_tables(rt: HostRuntime) -> Result<(), Fail> {
     let mut events = [Event::UNUSED; 64];
     let mut ties = [0u64; 384];
-    let Some(case) = sealed(OWN, &mut events, &mut ties) else {
-        return Err(Fail::new("not sealed"));
-    };
+    let case = sealed(OWN, &mut events, &mut ties).ok_or("not sealed")?;
     let mut buffer = [7u8; BYTES];
     let answer = write(&case, &events[0..63], &ties, &mut buffer);
     assert!(rt; refused(answer, 1, 3, 0), "63 records");
@@ -78,9 +71,7 @@ fn short_tables(rt: HostRuntime) -> Result<(), Fail> {
 fn changed_tables(rt: HostRuntime) -> Result<(), Fail> {
     let mut events = [Event::UNUSED; 64];
     let mut ties = [0u64; 384];
-    let Some(case) = sealed(OWN, &mut events, &mut ties) else {
-        return Err(Fail::new("not sealed"));
-    };
+    let case = sealed(OWN, &mut events, &mut ties).ok_or("not sealed")?;
     ties[2] = 0;
     let mut buffer = [7u8; BYTES];
     let answer = write(&case, &events, &ties, &mut buffer);
@@ -96,44 +87,34 @@ fn changed_tables(rt: HostRuntime) -> Result<(), Fail> {
 fn built_and_read_back(rt: HostRuntime) -> Result<(), Fail> {
     let mut events = [Event::UNUSED; 64];
     let mut ties = [0u64; 384];
-    let Some(case) = built(&mut events, &mut ties) else {
-        return Err(Fail::new("not sealed"));
-    };
+    let case = built(&mut events, &mut ties).ok_or("not sealed")?;
     let mut buffer = [7u8; BYTES];
     assert_eq!(rt; write(&case, &events, &ties, &mut buffer).ok(), Some(BYTES));
-    assert!(rt; same(&buffer, OWN), "its text");
+    assert!(rt; buffer.as_slice() == OWN, "its text");
     let mut records = [Event::UNUSED; 64];
     let mut words = [0u64; 384];
     assert!(rt;
         sealed(&buffer, &mut records, &mut words).is_some(),
         "sealed again"
     );
-    for i in 0..64 {
-        assert!(rt; records[i] == events[i]);
-    }
-    for i in 0..384 {
-        assert!(rt; words[i] == ties[i]);
-    }
+    assert!(rt; records == events && words == ties);
     Ok(())
 }
 
 fn built(events: &mut [Event], ties: &mut [u64]) -> Option<SealedCase> {
     let mut case = OpenCase::open(events, ties).ok()?;
-    let _ = case.enter(events, ties, record(0, 3)).ok()?;
-    let _ = case.enter(events, ties, record(1, 1)).ok()?;
-    let _ = case.enter(events, ties, record(1, 3)).ok()?;
-    let _ = case.tie(events, ties, 2, 0, 2).ok()?;
-    let _ = case.tie(events, ties, 1, 2, 1).ok()?;
+    let _ = case.enter(events, ties, record(0, Sort::WriteOnce)).ok()?;
+    let _ = case.enter(events, ties, record(1, Sort::ReadOnce)).ok()?;
+    let _ = case.enter(events, ties, record(1, Sort::WriteOnce)).ok()?;
+    let (rf, co) = (Relation::Rf.number() as u32, Relation::Co.number() as u32);
+    let _ = case.tie(events, ties, co, 0, 2).ok()?;
+    let _ = case.tie(events, ties, rf, 2, 1).ok()?;
     case.seal(events, ties).ok()
 }
 
 // A read or write of place 1.
-fn record(thread: u8, sort: u8) -> Event {
-    Event {
-        thread,
-        sort,
-        place: 1,
-    }
+fn record(thread: u8, sort: Sort) -> Event {
+    Event::of(thread, sort, 1)
 }
 
 // A text read and sealed.
@@ -144,23 +125,9 @@ fn sealed(text: &[u8], events: &mut [Event], ties: &mut [u64]) -> Option<SealedC
 
 // Whether an answer is this refusal: cause, layer and place.
 fn refused(answer: Result<usize, Fault>, cause: u8, layer: u8, place: u32) -> bool {
-    match answer {
-        Ok(_) => false,
-        Err(fault) => {
-            fault.number() == cause && fault.layer_number() == layer && fault.place == place
-        }
-    }
+    answer.is_err_and(|fault| says(fault, cause, layer, place))
 }
 
 fn untouched(buffer: &[u8]) -> bool {
-    for b in buffer {
-        if *b != 7 {
-            return false;
-        }
-    }
-    true
-}
-
-fn same(a: &[u8], b: &[u8]) -> bool {
-    a == b
+    buffer.iter().all(|byte| *byte == 7)
 }

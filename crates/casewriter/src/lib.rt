@@ -4,6 +4,7 @@
 pub mod bytes;
 pub mod lines;
 pub mod texts;
+pub mod ties;
 pub mod whole;
 
 pub use texts::{count_ties, write_snapshot};

@@ -1,7 +1,8 @@
 -- What comes of a text that is read and sealed.
-use Rattle.std.specs.Prelude.{◌≡◌, ℕ, List, Some, None, Ok, Err, Option, Result}
+use Rattle.std.specs.Prelude.{◌≡◌, ℕ, List, ◌++◌, codes, decimal, Some, None, Ok, Err, Option, Result}
 use Rattle.executions.specs.declared.events.Event.{Event}
 use Rattle.executions.specs.declared.faults.Fault.{Fault}
+use Rattle.executions.specs.Faults.{cause_number}
 use Rattle.executions.specs.Execution.{Execution}
 use Rattle.sources.specs.Source.{bounded}
 use Rattle.wellformed.specs.Faults.{first_fault}
@@ -22,6 +23,10 @@ of_text (Entry f n) = record { fault = f; line = n }
 -- a refusal of the whole case, which has no line
 abbrev pub of_case : Fault → Refusal
 of_case f = record { fault = f; line = 0 }
+
+-- a refusal in words
+abbrev pub told : Refusal → List ℕ
+told r = codes "refused " ++ decimal (cause_number r.fault.cause) ++ codes " place " ++ decimal r.fault.place ++ codes " line " ++ decimal r.line
 
 -- a case with no fault is sealed
 abbrev pub checked_as : Execution → Option Fault → Result Execution Refusal

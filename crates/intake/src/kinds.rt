@@ -8,7 +8,7 @@ pub struct Refusal {
     pub line: u32,
 }
 
-// The two tables of a case.
+// The two tables of a case, each of its own length, as every call takes them.
 #[derive(Clone, Copy)]
 pub struct Tables {
     pub events: [Event; 64],

@@ -6,6 +6,6 @@ pub mod kinds;
 pub mod reading;
 pub mod refusals;
 
-pub use input::fill;
+pub use input::{ROOM, fill};
 pub use kinds::{Refusal, Tables};
 pub use reading::read_sealed;

@@ -10,11 +10,5 @@ pub fn read_sealed(text: &[u8], tables: &mut Tables) -> Result<SealedCase, Refus
     ensures { SealedFrom text.now tables.new.events tables.new.ties result }
 {
     let open = read(text, &mut tables.events, &mut tables.ties)?;
-    match open.seal(&tables.events, &tables.ties) {
-        Ok(case) => Ok(case),
-        Err(back) => {
-            let (_, fault) = back;
-            Err(Refusal::from(fault))
-        }
-    }
+    Ok(open.seal(&tables.events, &tables.ties)?)
 }

@@ -7,12 +7,9 @@ mod kinds;
 use accounts::rewrite;
 use caselines::fields::same;
 use casewriter::front;
-use intake::{Refusal, fill};
+use intake::{ROOM, fill};
 use kinds::Account;
 use std::io;
-
-// How much of the input is read. The largest text of a sealed case is shorter.
-const ROOM: usize = 65536;
 
 fn main(rt: HostRuntime) -> io::Result<()> {
     let mut text = vec![in rt.alloc(); 0u8; ROOM]?;
@@ -21,7 +18,7 @@ fn main(rt: HostRuntime) -> io::Result<()> {
     let text = front(&text, count);
     match rewrite(text, &mut back) {
         Ok(account) => tell(&rt, account, same(text, front(&back, account.bytes))),
-        Err(refusal) => decline(&rt, refusal),
+        Err(refusal) => println!(rt; "{refusal}"),
     }
 }
 
@@ -35,9 +32,4 @@ fn tell(rt: &impl Print, account: Account, same: bool) -> io::Result<()> {
         "other than read"
     };
     println!(rt; "written back: {bytes} bytes, {which}")
-}
-
-fn decline(rt: &impl Print, refusal: Refusal) -> io::Result<()> {
-    let (number, place, line) = (refusal.fault.number(), refusal.fault.place, refusal.line);
-    println!(rt; "refused {number} place {place} line {line}")
 }

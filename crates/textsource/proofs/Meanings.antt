@@ -1,10 +1,8 @@
 -- What the tables hold after a text was scanned, and the answers from them.
-use Rattle.std.proofs.Common.{◌≡◌, ℕ, ◌^◌, ◌<◌, ◌≤◌, Bool, true, false, ◌&&◌, ltb, List, [], ◌++◌, length, get_or, take, drop, replicate, Some, None, Ok, Err, MatchBool, Option, Result, sym, refl, ap, ◌∙◌, subst, ap₂, subst₂, ⊎_elim, arith}
+use Rattle.std.proofs.Common.{◌≡◌, ℕ, ◌<◌, ◌≤◌, Bool, true, false, ◌&&◌, ltb, List, [], ◌++◌, length, get_or, drop, replicate, Some, None, Ok, Err, MatchBool, Option, Result, sym, refl, ap, ◌∙◌, ap₂, subst₂, arith}
 use mathlib.Core.Path.{fun_ext}
-use Rattle.std.specs.List.{slice_get}
-use Rattle.std.proofs.lemmas.List.{get_or_append_left, get_or-replicate, length-replicate, get_or-take, length-take-le}
-use Rattle.std.proofs.lemmas.Option.{slice_get-get_or, slice_get_past}
-use Rattle.std.proofs.lemmas.Bool.{lt-ltb, le-ltb, cases_lt}
+use Rattle.std.proofs.lemmas.List.{length-take-le}
+use Rattle.std.proofs.lemmas.Bool.{lt-ltb, le-ltb}
 use Rattle.rows.specs.Row.{bit}
 use Rattle.rows.proofs.Bits.{bit_zero}
 use Rattle.executions.specs.declared.events.Event.{Event}
@@ -12,13 +10,13 @@ use Rattle.executions.specs.declared.ties.Relation.{Relation}
 use Rattle.executions.specs.Execution.{Execution, Ties, unused}
 use Rattle.executions.specs.Ties.{relation_number, relation_of}
 use Rattle.executions.specs.Words.{word_at, ties_of}
-use Rattle.executions.proofs.Words.{word_within, no_word, no_event, tied_when}
 use Rattle.sources.specs.Source.{bounded, targets}
 use Rattle.tables.specs.declared.kinds.OpenCase.{OpenCase}
 use Rattle.tables.specs.Plain.{Plain, blank, short}
 use Rattle.casetext.specs.declared.kinds.TextFault.{TextFault}
 use Rattle.casetext.specs.Reading.{read_plain, Reads}
 use Rattle.textsource.specs.Meaning.{meant, holding}
+use Rattle.tables.proofs.Holding.{no_ties}
 
 -- ---- after read
 
@@ -30,34 +28,20 @@ unfolding meant
 meant_by bs n m r e k h = ap of_result (sym h ∙ ap₂ (λ (i j : ℕ). read_plain i j bs) e k)
 
 -- a text that was read
-pub read_holds : (bs : List ℕ) (rs : List Event) (ws : List ℕ) (rs' : List Event) (ws' : List ℕ) (c : OpenCase) → length rs ≡ 64 → length ws ≡ 384 → Reads bs rs ws rs' ws' (Ok c)
+pub read_holds : (bs : List ℕ) (rs : List Event) (ws : List ℕ) (rs' : List Event) (ws' : List ℕ) (c : OpenCase) → Reads bs rs ws rs' ws' (Ok c) → length rs ≡ 64 → length ws ≡ 384
     → holding c.count rs' ws' ≡ meant bs
-read_holds bs rs ws rs' ws' c e k read = ap (λ (p : Plain). p.execution) read.2.0 ∙ meant_by bs (length rs) (length ws) (Ok read.0) e k read.1
-
-cleared : (ws : List ℕ) (i : ℕ) → i < 384 → get_or (replicate 384 0 ++ ws) i 0 ≡ 0
-cleared ws i h = get_or_append_left (replicate 384 0) ws 0 i (subst (λ (n : ℕ). i < n) (sym (length-replicate {A = ℕ} 384 0)) h) ∙ get_or-replicate 384 i 0 0 h
-
-no_ties : (ws : List ℕ) (r : Relation) (a b : ℕ) → ties_of (replicate 384 0 ++ ws) r a b ≡ false
-no_ties ws r a b = ⊎_elim (λ h. no_word _ r a b (cleared ws _ (word_within r a h))) (λ h. no_event _ r a b h) (cases_lt a 64)
+read_holds bs rs ws rs' ws' c read e k = ap (λ (p : Plain). p.execution) read.2.0 ∙ meant_by bs (length rs) (length ws) (Ok read.0) e k read.1
 
 -- a text that was refused
-pub refusal_holds : (bs : List ℕ) (rs : List Event) (ws : List ℕ) (rs' : List Event) (ws' : List ℕ) (f : TextFault) → length rs ≡ 64 → length ws ≡ 384 → Reads bs rs ws rs' ws' (Err f)
+pub refusal_holds : (bs : List ℕ) (rs : List Event) (ws : List ℕ) (rs' : List Event) (ws' : List ℕ) (f : TextFault) → Reads bs rs ws rs' ws' (Err f) → length rs ≡ 64 → length ws ≡ 384
     → holding 0 rs' ws' ≡ meant bs
-refusal_holds bs rs ws rs' ws' f e k read =
+refusal_holds bs rs ws rs' ws' f read e k =
     let zeros = subst₂ (λ (n m : ℕ). MatchBool (short n m) ((rs' ≡ rs) × (ws' ≡ ws)) ((rs' ≡ replicate 64 unused ++ drop 64 rs) × (ws' ≡ replicate 384 0 ++ drop 384 ws))) e k read.1 in
     ap (λ (l : List ℕ). record { events = []; ties = ties_of l }) zeros.1
     ∙ ap (λ (ts : Ties). record { events = []; ties = ts }) (fun_ext λ r. fun_ext λ a. fun_ext λ b. no_ties (drop 384 ws) r a b)
     ∙ meant_by bs (length rs) (length ws) (Err f) e k read.0
 
 -- ---- answers
-
-pub event_there : (x : Execution) (n i : ℕ) (rs : List Event) (ws : List ℕ) → holding n rs ws ≡ x → i < n → n ≤ length rs → Some (get_or rs i unused) ≡ slice_get x.events i
-event_there x n i rs ws e h k =
-    ap (λ d. Some d) (sym (get_or-take n rs i unused h)) ∙ sym (slice_get-get_or (take n rs) i unused (subst (λ (m : ℕ). i < m) (sym (length-take-le n rs k)) h)) ∙ ap (λ (y : Execution). slice_get y.events i) e
-
-pub event_past : (x : Execution) (n i : ℕ) (rs : List Event) (ws : List ℕ) → holding n rs ws ≡ x → n ≤ i → n ≤ length rs → None ≡ slice_get x.events i
-event_past x n i rs ws e h k =
-    sym (slice_get_past (take n rs) i (subst (λ (m : ℕ). m ≤ i) (sym (length-take-le n rs k)) h)) ∙ ap (λ (y : Execution). slice_get y.events i) e
 
 -- a relation or an event that there is not
 pub row_unknown : (x : Execution) (number a : ℕ) → None ≡ relation_of number → bit 0 ≡ targets x number a
@@ -72,10 +56,6 @@ pub row_past : (x : Execution) (n number a : ℕ) (r : Relation) (rs : List Even
 row_past x n number a r rs ws e k known h =
     let counted : length x.events ≡ n = sym (ap (λ (y : Execution). length y.events) e) ∙ length-take-le n rs k in
     fun_ext λ b. bit_zero b ∙ sym (ap (λ (t : Bool). t && (ltb b 64 && x.ties r a b)) (le-ltb a (length x.events) (omega arith))) ∙ at_relation x number a b r known
-
--- the row of an event
-pub row_held : (ws : List ℕ) (r : Relation) (a w : ℕ) → a < 64 → w ≡ get_or ws (word_at (relation_number r) a) 0 → w < 2 ^ 64 → bit w ≡ ties_of ws r a
-row_held ws r a w h e fits = fun_ext λ b. ap (λ (v : ℕ). bit v b) e ∙ sym (tied_when ws r a b h (subst (λ (v : ℕ). v < 2 ^ 64) e fits))
 
 -- ties go to numbers below 64
 ties_low : (ws : List ℕ) (r : Relation) (a b : ℕ) → ties_of ws r a b ≡ (ltb b 64 && ties_of ws r a b)

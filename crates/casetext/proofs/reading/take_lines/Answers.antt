@@ -1,11 +1,12 @@
 use Rattle.std.proofs.Common.{length, Err, sym, ap, ◌∙◌}
+use Rattle.std.proofs.lemmas.Bool.{eqb-true, eqb-false}
 use Rattle.std.proofs.lemmas.Result.{err_from_is_err_and}
 use Rattle.tables.specs.Tables.{tables}
 use Rattle.casetext.specs.declared.kinds.TextFault.{TextFault}
 use Rattle.casetext.specs.Reading.{line_step}
 use Rattle.casetext.proofs.Looping.{exact_more, shorter, lines_more, lines_bounded, lines_fail, lines_end, lines_open, lines_rest}
 use Rattle.casetext.proofs.reading.take_lines.Goals as goal
-use Rattle.casetext.proofs.reading.take_lines.Goals.{else-is_done-via-then-is_done+else-rest-eq0, else-is_done-via-else-is_done}
+use Rattle.casetext.proofs.reading.take_lines.Goals.{else-is_done-via-then-is_done+else-is_empty, else-is_done-via-else-is_done}
 
 pub returns-in_err-reader : goal.returns-in_err-reader
 returns-in_err-reader c =
@@ -41,12 +42,12 @@ loop-bytes-preserved c =
           c.in-Some.bytes.now t' c.in_ok-reader.reader c.in_ok-reader.ensures.does c.loop-bytes.invariant.3,
     )
 
-pub returns-then-rest-eq0 : goal.returns-then-rest-eq0
-returns-then-rest-eq0 c = record {
+pub returns-then-is_empty : goal.returns-then-is_empty
+returns-then-is_empty c = record {
   scanned =
       lines_end (length c.args.events.now) (length c.args.ties.now) (length c.loop-bytes.events) (length c.loop-bytes.ties)
       c.loop-bytes.auto.events c.loop-bytes.auto.ties _ c.loop-bytes.reader (tables c.loop-bytes.case c.loop-bytes.events c.loop-bytes.ties)
-      c.loop-bytes.rest.now c.loop-bytes.invariant.0 c.in_default.ensures (sym c.if-is_done.ensures) c.if-rest-eq0.true;
+      c.loop-bytes.rest.now c.loop-bytes.invariant.0 c.in_default.ensures (sym c.if-is_done.ensures) (eqb-true (length c.loop-bytes.rest.now) 0 (sym c.if-is_empty.ensures));
   exact = c.loop-bytes.invariant.1;
   tail = c.loop-bytes.invariant.2;
 }
@@ -56,10 +57,10 @@ returns-else-is_done c =
     let t = tables c.loop-bytes.case c.loop-bytes.events c.loop-bytes.ties in
     rw c.text_fault.ensures (record {
       scanned = elim c.else-is_done.branch [
-        | else-is_done-via-then-is_done+else-rest-eq0 w ↦
+        | else-is_done-via-then-is_done+else-is_empty w ↦
             lines_rest (length c.args.events.now) (length c.args.ties.now) (length c.loop-bytes.events) (length c.loop-bytes.ties)
             c.loop-bytes.auto.events c.loop-bytes.auto.ties _ c.loop-bytes.reader t c.loop-bytes.rest.now c.loop-bytes.invariant.0
-            c.in_default.ensures w.if-rest-eq0.false
+            c.in_default.ensures (eqb-false (length c.loop-bytes.rest.now) 0 (sym w.if-is_empty.ensures))
         | else-is_done-via-else-is_done w ↦
             lines_open (length c.args.events.now) (length c.args.ties.now) (length c.loop-bytes.events) (length c.loop-bytes.ties)
             c.loop-bytes.auto.events c.loop-bytes.auto.ties _ c.loop-bytes.reader t c.loop-bytes.rest.now c.loop-bytes.invariant.0

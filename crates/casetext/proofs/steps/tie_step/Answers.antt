@@ -16,7 +16,7 @@ returns-then-rank-reader c =
     rw c.text_fault-then-rank-reader.ensures (record {
       does = tie_misordered (length c.args.events.now) (length c.args.ties.now) c.args.reader c.args.tie.0 c.args.tie.1 c.args.tie.2
           (tables c.args.case.now c.args.events.now c.args.ties.now) c.if-reader-eq0.false
-          (subst (λ (k : ℕ). k < c.args.reader.least) c.rank-rank.ensures.0 c.if-rank-reader.true);
+          (subst (λ (k : ℕ). k < c.args.reader.least) c.rank-rank.ensures.value c.if-rank-reader.true);
       tail = refl;
     })
 
@@ -27,7 +27,7 @@ returns-in_err-tie_at c =
       does =
           tie_does (length c.args.events.now) (length c.args.ties.now) c.args.reader c.args.tie.0 c.args.tie.1 c.args.tie.2
           (tables c.args.case.now c.args.events.now c.args.ties.now) (tables c.args.case.now c.args.events.now c.tie_at.new.ties)
-          c.tie_at.result c.if-reader-eq0.false (subst (λ (k : ℕ). c.args.reader.least ≤ k) c.rank-rank.ensures.0 c.if-rank-reader.false)
+          c.tie_at.result c.if-reader-eq0.false (subst (λ (k : ℕ). c.args.reader.least ≤ k) c.rank-rank.ensures.value c.if-rank-reader.false)
           c.tie_at.ensures.does c.from_residual.result
           (p.1 ∙ ap (λ (f : TextFault). Err f) p.2
           ∙ sym (ap (passed_up (next c.args.reader (rank c.args.tie.0 c.args.tie.1 c.args.tie.2))) c.in_err-tie_at.was));
@@ -39,9 +39,9 @@ returns c = record {
   does =
       tie_does (length c.args.events.now) (length c.args.ties.now) c.args.reader c.args.tie.0 c.args.tie.1 c.args.tie.2
       (tables c.args.case.now c.args.events.now c.args.ties.now) (tables c.args.case.now c.args.events.now c.tie_at.new.ties)
-      c.tie_at.result c.if-reader-eq0.false (subst (λ (k : ℕ). c.args.reader.least ≤ k) c.rank-rank.ensures.0 c.if-rank-reader.false)
+      c.tie_at.result c.if-reader-eq0.false (subst (λ (k : ℕ). c.args.reader.least ≤ k) c.rank-rank.ensures.value c.if-rank-reader.false)
       c.tie_at.ensures.does (Ok c.moved.result)
-      (ap (λ (n : Reader). Ok n) (c.moved.ensures ∙ ap (next c.args.reader) c.rank-rank.ensures.0)
+      (ap (λ (n : Reader). Ok n) (c.moved.ensures ∙ ap (next c.args.reader) c.rank-rank.ensures.value)
       ∙ sym (ap (passed_up (next c.args.reader (rank c.args.tie.0 c.args.tie.1 c.args.tie.2))) c.in_ok-tie_at.was));
   tail = c.tie_at.ensures.tail;
 }

@@ -1,6 +1,6 @@
-use Rattle.std.proofs.Common.{arith}
+use Rattle.std.proofs.Common.{rules}
 use Rattle.casewriter.proofs.Laying.{put_none}
 use Rattle.casewriter.proofs.texts.put_some.Goals as goal
 
-pub returns-in-None : goal.returns-in-None
-returns-in-None c = rw c.in-None.is (record { put = put_none c.args.at c.args.buffer.now; within = omega arith })
+pub returns-in_default-clause-put : goal.returns-in_default-clause-put
+returns-in_default-clause-put c = search (rules, put_none)

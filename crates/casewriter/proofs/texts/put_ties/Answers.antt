@@ -1,25 +1,24 @@
-use Rattle.std.proofs.Common.{sym, refl, ap, arith}
-use Rattle.std.specs.List.{flat_map}
+use Rattle.std.proofs.Common.{[], ◌∷◌, ◌++◌, sym, ◌∙◌, ap, length, arith, rules}
+use Rattle.std.proofs.lemmas.List.{append_assoc, length-append}
 use Rattle.sources.specs.Snapshot.{execution}
-use Rattle.casetext.specs.Text.{line}
+use Rattle.casewriter.specs.Listing.{lines_left}
 use Rattle.casewriter.proofs.Laying.{put_none, then_put, spelled_so}
-use Rattle.casewriter.proofs.Gathering.{tie_more, row_skip, none_below}
+use Rattle.casewriter.proofs.Gathering.{line_more, ties_few}
 use Rattle.casewriter.proofs.texts.put_ties.Goals as goal
 
-pub loop-k-init : goal.loop-k-init
-loop-k-init c = (spelled_so (sym (ap (flat_map line) (none_below (execution c.args.case.now)))) (put_none c.args.start c.args.buffer.now), omega arith, omega arith)
+pub loop-line-init : goal.loop-line-init
+loop-line-init c = search (rules, put_none)
 
-pub loop-k-preserved-then-is_bare : goal.loop-k-preserved-then-is_bare
-loop-k-preserved-then-is_bare c =
-    let bare = c.if-is_bare.ensures refl in (
-      spelled_so (ap (flat_map line) (row_skip (execution c.args.case.now) c.loop-k.k bare)) c.loop-k.invariant.0,
-      omega (arith, c.loop-k.invariant.1),
-      omega (arith, bare.begins, c.loop-k.invariant.2),
+pub put_line-requires : goal.put_line-requires
+put_line-requires c =
+    omega (arith, c.loop-line.invariant.2, ap length c.loop-line.invariant.3, length-append c.loop-line.yielded (lines_left c.loop-line.line-iterator), ties_few (execution c.args.case.now))
+
+pub loop-line-preserved : goal.loop-line-preserved
+loop-line-preserved c =
+    let so_far = c.loop-line.yielded in
+    let line = c.in-Some.line in (
+      c.put_line.ensures.same ∙ c.loop-line.invariant.0,
+      spelled_so (line_more so_far line) (then_put c.loop-line.invariant.1 c.put_line.ensures.put),
+      omega (arith, c.loop-line.invariant.2, c.put_line.ensures.within, length-append so_far (line ∷ [])),
+      append_assoc so_far (line ∷ []) (lines_left c.next.new.self) ∙ ap (λ l. so_far ++ l) (sym c.in-Some.ensures.steps) ∙ c.loop-line.invariant.3,
     )
-
-pub loop-k-preserved : goal.loop-k-preserved
-loop-k-preserved c = (
-  spelled_so (tie_more (execution c.args.case.now) c.loop-k.k c.tie_line.result c.tie_line.ensures) (then_put c.loop-k.invariant.0 c.put_some-at.ensures.put),
-  omega (arith, c.loop-k.invariant.1, c.put_some-at.ensures.within),
-  omega arith,
-)

@@ -1,0 +1,90 @@
+// The lines of the ties of a case, one after another.
+ghost use Rattle.std.specs.Prelude.{◌≡◌, ◌+◌, ◌/◌, ◌<◌, true};
+ghost use Rattle.std.specs.Iterator.{YieldsFirst, item_count};
+ghost use Rattle.executions.specs.Ties.{relation_of};
+ghost use Rattle.sources.specs.Snapshot.{execution};
+ghost use Rattle.casetext.specs.Text.{tie_lines, ties_in};
+ghost use Rattle.casewriter.specs.Laid.{listed, Bare};
+ghost use Rattle.casewriter.specs.Listing.{lines_left};
+
+use caselines::Line;
+use executions::Relation;
+use sources::Snapshot;
+
+// How many ties 64 events could have, in all relations. A tie is known by one number here, in the order in which the text lists them; each
+// function of it asks that it is below this, which `next` has just tested.
+const TIES: usize = 24576;
+
+// How many of them go out of one event in one relation; their numbers follow one another.
+const ROW: usize = 64;
+
+// The lines of the ties with numbers from `number` on.
+#[derive(Drop)]
+pub(crate) struct TieLines<'a> {
+    pub(crate) case: &'a Snapshot,
+    pub(crate) number: usize,
+}
+
+impl<'a> TieLines<'a> {
+    pub(crate) fn of(case: &'a Snapshot) -> TieLines<'a>
+        ensures { lines_left result ≡ ties_in (execution case.now) }
+    {
+        TieLines { case, number: 0 }
+    }
+}
+
+impl<'a> Iterator for TieLines<'a> {
+    type Item = Line;
+
+    ghost next_gives = { YieldsFirst lines_left };
+
+    ghost remaining = { item_count lines_left };
+
+    fn next(&mut self) -> Option<Line> {
+        // Not a range, since a row with no tie is passed over at once.
+        while self.number < TIES {
+            let number = self.number;
+            if is_bare(self.case, number) {
+                self.number += ROW;
+                continue;
+            }
+            self.number += 1;
+            if let Some(line) = tie_line(self.case, number) {
+                return Some(line);
+            }
+        }
+        None
+    }
+}
+
+// The relation of the tie of a number.
+fn relation_at(number: usize) -> Option<Relation>
+    requires { number < 24576 }
+    ensures { result ≡ relation_of (number / 4096 + 1) }
+{
+    Relation::try_from((number / (ROW * ROW) + 1) as u32).ok()
+}
+
+// The line of the tie of a number, where the case has it.
+fn tie_line(case: &Snapshot, number: usize) -> Option<Line>
+    requires { number < 24576 }
+    ensures { listed result ≡ tie_lines (execution case.now) number }
+{
+    let relation = relation_at(number)?;
+    let (first, second) = (number / ROW % ROW, number % ROW);
+    let there = first < case.count()
+        && second < case.count()
+        && rows::has(case.row(relation, first), second);
+    there.then_some(Line::Tie(relation, first as u32, second as u32))
+}
+
+// Whether a number begins a row that has no tie, so that all of it can be passed over.
+fn is_bare(case: &Snapshot, number: usize) -> bool
+    requires { number < 24576 }
+    ensures { result ≡ true → Bare (execution case.now) number }
+{
+    let Some(relation) = relation_at(number) else {
+        return false;
+    };
+    number % ROW == 0 && case.row(relation, number / ROW % ROW) == 0
+}
