@@ -1,9 +1,10 @@
 -- What the rows of events have: by thread, by place and by sort.
-use Rattle.std.proofs.Common.{◌≡◌, ℕ, ◌+◌, ◌-◌, ◌^◌, ◌<◌, ◌≤◌, true, false, ◌&&◌, ◌||◌, eqb, ltb, leb, List, get_or, sym, refl, ap, ◌∙◌, subst, ap₂, ⊎_elim, arith}
+use Rattle.std.proofs.lemmas.Bool.Decides.{nat_tests}
+use Rattle.std.proofs.Common.{◌≡◌, ℕ, ◌+◌, ◌-◌, ◌^◌, ◌<◌, ◌≤◌, true, false, ◌&&◌, ◌||◌, eqb, ltb, List, get_or, sym, refl, ap, ◌∙◌, ⊎_elim, arith}
 use mathlib.Core.Path.{fun_ext}
 use lib.Bits.{bit_and, bit_or}
 use Rattle.std.proofs.lemmas.List.{get_or_past}
-use Rattle.std.proofs.lemmas.Bool.{cases_lt, eq-eqb, eqb-true, lt-ltb, le-ltb, ltb-true, leb-true, and_parts, and_from, and_left, and_right, both_ways, or_cases, or_left, or_right, not-true, not_from_false}
+use Rattle.std.proofs.lemmas.Bool.{cases_lt, eq-eqb, eqb-true, lt-ltb, le-ltb, ltb-true, and_parts, and_from, and_left, both_ways, or_cases, or_right, not-true, not_from_false}
 use Rattle.rows.specs.Row.{Set, bit, adding, below}
 use Rattle.rows.proofs.Bits.{bit-bit_and, bit-bit_or, bit_not, bit_zero, bit_inside}
 use Rattle.relations.specs.Algebra.{union, identity}
@@ -14,7 +15,7 @@ use Rattle.executions.specs.declared.sorts.Sort.{Sort}
 use Rattle.executions.specs.declared.sorts.Sort.TheVariants.{ReadOnce, ReadAcquire, WriteOnce, WriteRelease, Rmb, Wmb, Mb, RbDep, RcuLock, RcuUnlock, SyncRcu, Blank}
 use Rattle.executions.specs.declared.ties.Relation.{Relation}
 use Rattle.executions.specs.Sorts.{sort_number}
-use Rattle.executions.specs.Events.{is_read, is_write, in_program}
+use Rattle.executions.specs.Events.{in_program}
 use Rattle.executions.specs.Execution.{Execution, count, event_at, unused}
 use Rattle.basis.specs.Groups.{Grouped}
 use Rattle.basis.specs.Meaning.{po, same_thread, int, loc, tied, accesses, of_sort}
@@ -25,61 +26,33 @@ past x b l = get_or_past x.events b unused l
 
 -- an event of the program is one of the events
 pub program_inside : (x : Execution) (a : ℕ) → in_program (event_at x a) ≡ true → a < count x
-program_inside x a p = ⊎_elim (λ l. l) (λ l. absurd (gone l)) (cases_lt a (count x))
-  where
-    gone : count x ≤ a → ⊥
-    gone l = both_ways (in_program (event_at x a)) (ap in_program (past x a l)) p
+program_inside x a p = grind (arith, nat_tests, past)
 
 -- and so is one with the same thread
 pub fellow_inside : (x : Execution) (a b : ℕ) → in_program (event_at x a) ≡ true → (event_at x a).thread ≡ (event_at x b).thread → b < count x
-fellow_inside x a b p e = ⊎_elim (λ l. l) (λ l. absurd (gone l)) (cases_lt b (count x))
-  where
-    gone : count x ≤ b → ⊥
-    gone l =
-        let t : (event_at x a).thread ≡ 0 = e ∙ ap (λ (v : Event). v.thread) (past x b l) in
-        let q = leb-true 1 (event_at x a).thread (and_parts (leb 1 (event_at x a).thread) (leb (event_at x a).thread 8) p).0 in
-        omega arith
+fellow_inside x a b p e = grind (arith, nat_tests, past)
 
 access_inside : (x : Execution) (b : ℕ) → accesses x b ≡ true → b < count x
 unfolding accesses
-access_inside x b p = ⊎_elim (λ l. l) (λ l. absurd (both_ways (accesses x b) (ap (λ (v : Event). is_read v || is_write v) (past x b l)) p)) (cases_lt b (count x))
+access_inside x b p = grind (arith, nat_tests, past)
 
 -- ---- the relations have events at both ends
 
 pub on_po : (x : Execution) → On (count x) (po x)
 unfolding po
-on_po x a b h =
-    let p = and_parts (ltb a b) (in_program (event_at x a) && eqb (event_at x a).thread (event_at x b).thread) h in
-    let q = and_parts (in_program (event_at x a)) (eqb (event_at x a).thread (event_at x b).thread) p.1 in
-    (program_inside x a q.0, fellow_inside x a b q.0 (eqb-true _ _ q.1))
+on_po x a b h = grind (arith, nat_tests, program_inside, fellow_inside)
 
 pub on_int : (x : Execution) → On (count x) (int x)
 unfolding int same_thread union identity
-on_int x a b h = ⊎_elim itself fellow (or_cases (eqb a b && ltb a (count x)) (in_program (event_at x a) && eqb (event_at x a).thread (event_at x b).thread) h)
-  where
-    itself : (eqb a b && ltb a (count x)) ≡ true → (a < count x) × (b < count x)
-    itself k =
-        let p = and_parts (eqb a b) (ltb a (count x)) k in
-        let e = eqb-true a b p.0 in
-        let l = ltb-true a (count x) p.1 in
-        (l, omega arith)
-
-    fellow : (in_program (event_at x a) && eqb (event_at x a).thread (event_at x b).thread) ≡ true → (a < count x) × (b < count x)
-    fellow k =
-        let q = and_parts (in_program (event_at x a)) (eqb (event_at x a).thread (event_at x b).thread) k in
-        (program_inside x a q.0, fellow_inside x a b q.0 (eqb-true _ _ q.1))
+on_int x a b h = grind (arith, nat_tests, program_inside, fellow_inside)
 
 pub on_loc : (x : Execution) → On (count x) (loc x)
 unfolding loc
-on_loc x a b h =
-    let p = and_parts (accesses x a) (accesses x b && eqb (event_at x a).place (event_at x b).place) h in
-    (access_inside x a p.0, access_inside x b (and_parts (accesses x b) (eqb (event_at x a).place (event_at x b).place) p.1).0)
+on_loc x a b h = grind (arith, nat_tests, access_inside)
 
 pub on_tied : (r : Relation) (x : Execution) → On (count x) (tied r x)
 unfolding tied
-on_tied r x a b h =
-    let p = and_parts (ltb a (count x)) (ltb b (count x) && x.ties r a b) h in
-    (ltb-true a (count x) p.0, ltb-true b (count x) (and_parts (ltb b (count x)) (x.ties r a b) p.1).0)
+on_tied r x a b h = grind (arith, nat_tests)
 
 -- ---- rows
 
@@ -121,13 +94,11 @@ module _ (x : Execution) (gs : List ℕ) (few : count x ≤ 64) (all : Grouped (
 
   pub later_at : (e : Event) → e ≡ event_at x a → (v : ℕ) → get_or gs e.thread 0 < 2 ^ 64 → v < 2 ^ 64 → bit v ≡ below (a + 1) → e.thread < 256 → in_program e ≡ true
       → bit (bit_and (get_or gs e.thread 0) ((2 ^ 64 - 1) - v)) ≡ po x a
-  later_at e q v =
-      subst (λ (f : Event). get_or gs f.thread 0 < 2 ^ 64 → v < 2 ^ 64 → bit v ≡ below (a + 1) → f.thread < 256 → in_program f ≡ true
-      → bit (bit_and (get_or gs f.thread 0) ((2 ^ 64 - 1) - v)) ≡ po x a) (sym q) (later_is v)
+  later_at e q v = grind (arith, nat_tests, later_is)
 
   pub none_later : in_program (event_at x a) ≡ false → bit 0 ≡ po x a
   unfolding po
-  none_later p = fun_ext λ b. bit_zero b ∙ sym (and_right (ltb a b) _ (rw p refl))
+  none_later p = grind (arith, nat_tests, bit_zero)
 
   pub fellows_is : thread < 256 → in_program (event_at x a) ≡ true → bit (get_or gs thread 0) ≡ int x a
   unfolding int same_thread union identity
@@ -156,20 +127,11 @@ module _ (x : Execution) (gs : List ℕ) (few : count x ≤ 64) (all : Grouped (
               member b (fellow_inside x a b p e) e
 
   pub fellows_at : (e : Event) → e ≡ event_at x a → e.thread < 256 → in_program e ≡ true → bit (get_or gs e.thread 0) ≡ int x a
-  fellows_at e q = subst (λ (f : Event). f.thread < 256 → in_program f ≡ true → bit (get_or gs f.thread 0) ≡ int x a) (sym q) fellows_is
+  fellows_at e q = grind (arith, nat_tests, fellows_is)
 
   pub alone_is : (w : ℕ) → a < count x → bit w ≡ adding a (bit 0) → in_program (event_at x a) ≡ false → bit w ≡ int x a
   unfolding int same_thread union identity adding
-  alone_is w l e p = e ∙ fun_ext λ b. rw (bit_zero b, p, lt-ltb a (count x) l, lt-ltb a 64 (omega arith)) (both b)
-    where
-      both : (b : ℕ) → (eqb b a && true) ≡ ((eqb a b && true) || false)
-      both b = both_same _ _ (λ h. flip b a h) (λ h. flip' b h)
-        where
-          flip : (u v : ℕ) → (eqb u v && true) ≡ true → ((eqb v u && true) || false) ≡ true
-          flip u v h = or_left (eqb v u && true) false (and_from (eqb v u) true (eq-eqb v u (sym (eqb-true u v (and_parts (eqb u v) true h).0))) refl)
-
-          flip' : (b : ℕ) → ((eqb a b && true) || false) ≡ true → (eqb b a && true) ≡ true
-          flip' b h = ⊎_elim (λ k. and_from (eqb b a) true (eq-eqb b a (sym (eqb-true a b (and_parts (eqb a b) true k).0))) refl) (λ k. absurd (both_ways false refl k)) (or_cases (eqb a b && true) false h)
+  alone_is w l e p = grind (arith, nat_tests, bit_zero, both_same)
 
 -- the reads and writes of a place
 module _ (x : Execution) (gs : List ℕ) (all : Grouped (λ b. (event_at x b).place) (count x) gs) (w : ℕ) (acc : bit w ≡ accesses x) (a : ℕ) where
@@ -178,24 +140,10 @@ module _ (x : Execution) (gs : List ℕ) (all : Grouped (λ b. (event_at x b).pl
 
   pub beside_is : place < 256 → accesses x a ≡ true → bit (bit_and (get_or gs place 0) w) ≡ loc x a
   unfolding loc
-  beside_is byte p = fun_ext λ b. both_same _ _ (there b) (back b)
-    where
-      there : (b : ℕ) → bit (bit_and (get_or gs place 0) w) b ≡ true → (accesses x a && (accesses x b && eqb place (event_at x b).place)) ≡ true
-      there b h =
-          let k = and_parts (bit (get_or gs place 0) b) (bit w b) (sym (bit-bit_and (get_or gs place 0) w b) ∙ h) in
-          let m = and_parts (ltb b (count x)) (eqb (event_at x b).place place) (sym (all place b byte) ∙ k.0) in
-          and_from (accesses x a) _ p (and_from (accesses x b) _ (sym (ap (λ (s : Set). s b) acc) ∙ k.1) (eq-eqb place (event_at x b).place (sym (eqb-true _ _ m.1))))
-
-      back : (b : ℕ) → (accesses x a && (accesses x b && eqb place (event_at x b).place)) ≡ true → bit (bit_and (get_or gs place 0) w) b ≡ true
-      back b h =
-          let k = and_parts (accesses x b) (eqb place (event_at x b).place) (and_parts (accesses x a) (accesses x b && eqb place (event_at x b).place) h).1 in
-          bit-bit_and (get_or gs place 0) w b
-          ∙ and_from (bit (get_or gs place 0) b) (bit w b)
-          (all place b byte ∙ and_from (ltb b (count x)) (eqb (event_at x b).place place) (lt-ltb b (count x) (access_inside x b k.0)) (eq-eqb _ _ (sym (eqb-true _ _ k.1))))
-          (ap (λ (s : Set). s b) acc ∙ k.0)
+  beside_is byte p = grind (arith, nat_tests, both_same, bit-bit_and, access_inside)
 
   pub beside_at : (e : Event) → e ≡ event_at x a → e.place < 256 → accesses x a ≡ true → bit (bit_and (get_or gs e.place 0) w) ≡ loc x a
-  beside_at e q = subst (λ (f : Event). f.place < 256 → accesses x a ≡ true → bit (bit_and (get_or gs f.place 0) w) ≡ loc x a) (sym q) beside_is
+  beside_at e q = grind (arith, nat_tests, beside_is)
 
   pub none_beside : accesses x a ≡ false → bit 0 ≡ loc x a
   unfolding loc
@@ -218,16 +166,13 @@ numbered Blank = refl
 
 pub sort_is : (x : Execution) (gs : List ℕ) (s : Sort) → sort_number s < 256 → Grouped (λ b. (event_at x b).sort) (count x) gs → bit (get_or gs (sort_number s) 0) ≡ of_sort s x
 unfolding of_sort
-sort_is x gs s byte all = fun_ext λ b. all (sort_number s) b byte ∙ ⊎_elim (λ l. rw (lt-ltb b (count x) l) refl) (gone b) (cases_lt b (count x))
-  where
-    gone : (b : ℕ) → count x ≤ b → (ltb b (count x) && eqb (event_at x b).sort (sort_number s)) ≡ eqb (event_at x b).sort (sort_number s)
-    gone b l = rw (le-ltb b (count x) l) (sym (ap (λ (e : Event). eqb e.sort (sort_number s)) (past x b l) ∙ numbered s))
+sort_is x gs s byte all = grind (arith, nat_tests, past, numbered)
 
 -- the periods are among the events
 pub sort_inside : (x : Execution) (s : Sort) (b : ℕ) → of_sort s x b ≡ true → b < count x
 unfolding of_sort
-sort_inside x s b h = ⊎_elim (λ l. l) (λ l. absurd (both_ways _ (ap (λ (e : Event). eqb e.sort (sort_number s)) (past x b l) ∙ numbered s) h)) (cases_lt b (count x))
+sort_inside x s b h = grind (arith, nat_tests, past, numbered)
 
 -- the events of one word or of another
 pub either_is : (v w : ℕ) (f g : Set) → bit v ≡ f → bit w ≡ g → bit (bit_or v w) ≡ (λ a. f a || g a)
-either_is v w f g e h = fun_ext λ a. bit-bit_or v w a ∙ ap₂ ◌||◌ (ap (λ (s : Set). s a) e) (ap (λ (s : Set). s a) h)
+either_is v w f g e h = grind (arith, nat_tests, bit-bit_or)

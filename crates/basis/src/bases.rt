@@ -1,67 +1,54 @@
 // The basis of a case.
 ghost use Rattle.std.specs.Prelude.{◌≡◌};
-ghost use Rattle.rows.specs.Row.{bit};
 ghost use Rattle.relations.specs.View.{rel};
-ghost use Rattle.executions.specs.Execution.{count as events_of, event_at};
-ghost use Rattle.executions.specs.Events.{is_read, is_write};
 ghost use Rattle.sources.specs.Snapshot.{execution};
-ghost use Rattle.basis.specs.Groups.{Grouped};
 ghost use Rattle.basis.specs.Meaning.{basis};
 ghost use Rattle.basis.specs.Sections.{HasSections};
 ghost use Rattle.basis.specs.View.{basis_of};
 
-use crate::groups::{Groups, grouped};
+use crate::groups::Grouped;
 use crate::kinds::Base;
-use crate::orders::{internal, located, program_order, sorted, ties};
+use crate::orders::ties;
 use crate::sections::sections;
 use executions::{Relation as Tie, Sort};
 use sources::Snapshot;
 
 impl Base {
-    // The base relations and sets of a case.
+    // The base relations and sets of a case. Computed, so `of` and no From, which would read as a change of form.
     pub fn of(case: &Snapshot) -> Base
         ensures same { basis_of result ≡ basis (execution case.now) }
         ensures in_words { HasSections (execution case.now) (rel result.crit) }
     {
-        let groups = grouped(case);
-        let reads = reading(case, &groups);
-        let writes = writing(case, &groups);
-        Base {
-            po: program_order(case, &groups),
-            int: internal(case, &groups),
-            loc: located(case, &groups, reads | writes),
-            rf: ties(case, Tie::Rf),
-            co: ties(case, Tie::Co).plus(),
-            addr: ties(case, Tie::Addr),
-            data: ties(case, Tie::Data),
-            ctrl: ties(case, Tie::Ctrl),
-            rmw: ties(case, Tie::Rmw),
-            crit: sections(case),
-            reads,
-            writes,
-            acquires: sorted(case, &groups, Sort::ReadAcquire),
-            releases: sorted(case, &groups, Sort::WriteRelease),
-            rmbs: sorted(case, &groups, Sort::Rmb),
-            wmbs: sorted(case, &groups, Sort::Wmb),
-            mbs: sorted(case, &groups, Sort::Mb),
-            rb_deps: sorted(case, &groups, Sort::RbDep),
-            periods: sorted(case, &groups, Sort::SyncRcu),
-        }
+        Grouped::of(case).base()
     }
 }
 
-// The reads.
-fn reading(case: &Snapshot, groups: &Groups) -> u64
-    requires { Grouped (λ b. (event_at (execution case.now) b).sort) (events_of (execution case.now)) groups.now.sorts }
-    ensures { bit result ≡ (λ a. is_read (event_at (execution case.now) a)) }
-{
-    sorted(case, groups, Sort::ReadOnce) | sorted(case, groups, Sort::ReadAcquire)
-}
-
-// The writes.
-fn writing(case: &Snapshot, groups: &Groups) -> u64
-    requires { Grouped (λ b. (event_at (execution case.now) b).sort) (events_of (execution case.now)) groups.now.sorts }
-    ensures { bit result ≡ (λ a. is_write (event_at (execution case.now) a)) }
-{
-    sorted(case, groups, Sort::WriteOnce) | sorted(case, groups, Sort::WriteRelease)
+impl<'a> Grouped<'a> {
+    // The base relations and sets of the case.
+    fn base(&self) -> Base
+        ensures same { basis_of result ≡ basis (execution self.now.case.now) }
+        ensures in_words { HasSections (execution self.now.case.now) (rel result.crit) }
+    {
+        Base {
+            po: self.program_order(),
+            int: self.internal(),
+            loc: self.located(),
+            rf: ties(self.case, Tie::Rf),
+            co: ties(self.case, Tie::Co).plus(),
+            addr: ties(self.case, Tie::Addr),
+            data: ties(self.case, Tie::Data),
+            ctrl: ties(self.case, Tie::Ctrl),
+            rmw: ties(self.case, Tie::Rmw),
+            crit: sections(self.case),
+            reads: self.reads(),
+            writes: self.writes(),
+            acquires: self.sorted(Sort::ReadAcquire),
+            releases: self.sorted(Sort::WriteRelease),
+            rmbs: self.sorted(Sort::Rmb),
+            wmbs: self.sorted(Sort::Wmb),
+            mbs: self.sorted(Sort::Mb),
+            rb_deps: self.sorted(Sort::RbDep),
+            periods: self.sorted(Sort::SyncRcu),
+        }
+    }
 }

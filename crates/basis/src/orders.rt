@@ -1,13 +1,14 @@
-// The base relations, row by row.
+// The base relations, row by row, and the events of a sort. What is left of a base relation here is its row and its name, and of the reads
+// and the writes two sorts: one function for several would say no less.
 ghost use Rattle.std.specs.Prelude.{◌≡◌, ◌<◌};
 ghost use Rattle.rows.specs.Row.{bit};
 ghost use Rattle.relations.specs.View.{rel, size};
 ghost use Rattle.executions.specs.Execution.{count as events_of, event_at};
+ghost use Rattle.executions.specs.Events.{is_read, is_write};
 ghost use Rattle.sources.specs.Snapshot.{execution};
-ghost use Rattle.basis.specs.Groups.{Grouped};
 ghost use Rattle.basis.specs.Meaning.{po, int, loc, tied, accesses as accessed, of_sort};
 
-use crate::groups::Groups;
+use crate::groups::Grouped;
 use executions::{Relation as Tie, Sort};
 use relations::Relation;
 use rows::{below, has, with};
@@ -18,102 +19,98 @@ pub(crate) fn ties(case: &Snapshot, relation: Tie) -> Relation
     ensures pairs { rel result ≡ tied relation (execution case.now) }
     ensures events { size result ≡ events_of (execution case.now) }
 {
-    let n = case.count();
-    let mut tied = Relation::empty(n);
-    for a in 0..n {
-        tied.replace(a, case.row(relation, a));
-    }
-    tied
+    Relation::by_rows(case.count(), |a| case.row(relation, a))
 }
 
-// Program order.
-pub(crate) fn program_order(case: &Snapshot, groups: &Groups) -> Relation
-    requires { Grouped (λ b. (event_at (execution case.now) b).thread) (events_of (execution case.now)) groups.now.threads }
-    ensures pairs { rel result ≡ po (execution case.now) }
-    ensures events { size result ≡ events_of (execution case.now) }
-{
-    let n = case.count();
-    let mut order = Relation::empty(n);
-    for a in 0..n {
-        order.replace(a, later(case, groups, a));
+impl<'a> Grouped<'a> {
+    // Program order.
+    pub(crate) fn program_order(&self) -> Relation
+        ensures pairs { rel result ≡ po (execution self.now.case.now) }
+        ensures events { size result ≡ events_of (execution self.now.case.now) }
+    {
+        Relation::by_rows(self.case.count(), |a| self.later(a))
     }
-    order
-}
 
-// The later events of the same thread.
-fn later(case: &Snapshot, groups: &Groups, a: usize) -> u64
-    requires grouped { Grouped (λ b. (event_at (execution case.now) b).thread) (events_of (execution case.now)) groups.now.threads }
-    requires inside { a < 64 }
-    ensures { bit result ≡ po (execution case.now) a }
-{
-    let event = case.event(a);
-    if event.in_program() {
-        groups.threads[event.thread as usize] & !below(a + 1)
-    } else {
-        0
+    // The later events of the same thread, for one of the 64 numbers that rows have, so that the next number fits.
+    fn later(&self, a: usize) -> u64
+        requires { a < 64 }
+        ensures { bit result ≡ po (execution self.now.case.now) a }
+    {
+        let event = self.case.event(a);
+        if event.in_program() {
+            self.threads[event.thread as usize] & !below(a + 1)
+        } else {
+            0
+        }
     }
-}
 
-// Pairs of one thread.
-pub(crate) fn internal(case: &Snapshot, groups: &Groups) -> Relation
-    requires { Grouped (λ b. (event_at (execution case.now) b).thread) (events_of (execution case.now)) groups.now.threads }
-    ensures pairs { rel result ≡ int (execution case.now) }
-    ensures events { size result ≡ events_of (execution case.now) }
-{
-    let n = case.count();
-    let mut pairs = Relation::empty(n);
-    for a in 0..n {
-        pairs.replace(a, fellows(case, groups, a));
+    // Pairs of one thread.
+    pub(crate) fn internal(&self) -> Relation
+        ensures pairs { rel result ≡ int (execution self.now.case.now) }
+        ensures events { size result ≡ events_of (execution self.now.case.now) }
+    {
+        Relation::by_rows(self.case.count(), |a| self.fellows(a))
     }
-    pairs
-}
 
-// The event itself and all of its thread of the program.
-fn fellows(case: &Snapshot, groups: &Groups, a: usize) -> u64
-    requires grouped { Grouped (λ b. (event_at (execution case.now) b).thread) (events_of (execution case.now)) groups.now.threads }
-    requires inside { a < events_of (execution case.now) }
-    ensures { bit result ≡ int (execution case.now) a }
-{
-    let event = case.event(a);
-    if event.in_program() {
-        groups.threads[event.thread as usize]
-    } else {
-        with(0, a)
+    // The event itself and all of its thread of the program.
+    fn fellows(&self, a: usize) -> u64
+        requires { a < events_of (execution self.now.case.now) }
+        ensures { bit result ≡ int (execution self.now.case.now) a }
+    {
+        let event = self.case.event(a);
+        if event.in_program() {
+            self.threads[event.thread as usize]
+        } else {
+            with(0, a)
+        }
     }
-}
 
-// Reads and writes of one place.
-pub(crate) fn located(case: &Snapshot, groups: &Groups, accesses: u64) -> Relation
-    requires grouped { Grouped (λ b. (event_at (execution case.now) b).place) (events_of (execution case.now)) groups.now.places }
-    requires all_accesses { bit accesses ≡ accessed (execution case.now) }
-    ensures pairs { rel result ≡ loc (execution case.now) }
-    ensures events { size result ≡ events_of (execution case.now) }
-{
-    let n = case.count();
-    let mut pairs = Relation::empty(n);
-    for a in 0..n {
-        pairs.replace(a, beside(case, groups, accesses, a));
+    // Reads and writes of one place.
+    pub(crate) fn located(&self) -> Relation
+        ensures pairs { rel result ≡ loc (execution self.now.case.now) }
+        ensures events { size result ≡ events_of (execution self.now.case.now) }
+    {
+        let accesses = self.accesses();
+        Relation::by_rows(self.case.count(), |a| self.beside(accesses, a))
     }
-    pairs
-}
 
-// The reads and writes of the same place.
-fn beside(case: &Snapshot, groups: &Groups, accesses: u64, a: usize) -> u64
-    requires grouped { Grouped (λ b. (event_at (execution case.now) b).place) (events_of (execution case.now)) groups.now.places }
-    requires all_accesses { bit accesses ≡ accessed (execution case.now) }
-    ensures { bit result ≡ loc (execution case.now) a }
-{
-    if has(accesses, a) {
-        groups.places[case.event(a).place as usize] & accesses
-    } else {
-        0
+    // The reads and writes of the same place.
+    fn beside(&self, accesses: u64, a: usize) -> u64
+        requires { bit accesses ≡ accessed (execution self.now.case.now) }
+        ensures { bit result ≡ loc (execution self.now.case.now) a }
+    {
+        if has(accesses, a) {
+            self.places[self.case.event(a).place as usize] & accesses
+        } else {
+            0
+        }
     }
-}
 
-// The events of a sort.
-pub(crate) fn sorted(case: &Snapshot, groups: &Groups, sort: Sort) -> u64
-    requires { Grouped (λ b. (event_at (execution case.now) b).sort) (events_of (execution case.now)) groups.now.sorts }
-    ensures { bit result ≡ of_sort sort (execution case.now) }
-{
-    groups.sorts[sort.number() as usize]
+    // The reads and writes.
+    fn accesses(&self) -> u64
+        ensures { bit result ≡ accessed (execution self.now.case.now) }
+    {
+        self.reads() | self.writes()
+    }
+
+    // The reads.
+    pub(crate) fn reads(&self) -> u64
+        ensures { bit result ≡ (λ a. is_read (event_at (execution self.now.case.now) a)) }
+    {
+        self.sorted(Sort::ReadOnce) | self.sorted(Sort::ReadAcquire)
+    }
+
+    // The writes.
+    pub(crate) fn writes(&self) -> u64
+        ensures { bit result ≡ (λ a. is_write (event_at (execution self.now.case.now) a)) }
+    {
+        self.sorted(Sort::WriteOnce) | self.sorted(Sort::WriteRelease)
+    }
+
+    // The events of a sort.
+    pub(crate) fn sorted(&self, sort: Sort) -> u64
+        ensures { bit result ≡ of_sort sort (execution self.now.case.now) }
+    {
+        self.sorts[sort.number() as usize]
+    }
 }

@@ -19,13 +19,14 @@ pub(crate) fn sections(case: &Snapshot) -> Relation
     ensures in_words { HasSections (execution case.now) (rel result) }
 {
     let mut found = Relation::empty(case.count());
-    for k in 0..8 {
-        add_sections(case, k + 1, &mut found);
+    for thread in 1..=8 {
+        add_sections(case, thread, &mut found);
     }
     found
 }
 
-// Adds the sections of a thread: a walk with the number of its open locks and the outermost lock that was opened last.
+// Adds the sections of a thread: a walk with the number of its open locks and the outermost lock that was opened last, two numbers, as the
+// steps of wellformed take them. A copied case lends no array of its events: it answers by number.
 fn add_sections(case: &Snapshot, thread: usize, found: &mut Relation)
     requires { size found.old ≡ events_of (execution case.now) }
     ensures pairs { rel found.new ≡ union (rel found.old) (closes (execution case.now) thread) }

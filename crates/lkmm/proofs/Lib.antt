@@ -1,4 +1,3 @@
-mod Deciding
 mod Fitting
 mod Splitting
 mod Threads

@@ -2,7 +2,7 @@
 ghost use Rattle.std.specs.Prelude.{◌≡◌, ℕ, ◌<◌, true, false, not, ◌&&◌, is_some, IfSome, Decides, MatchOption};
 ghost use Rattle.relations.specs.Algebra.{seq};
 ghost use Rattle.relations.specs.View.{rel};
-ghost use Rattle.lkmm.specs.Rules.{At, IsAtRound};
+ghost use Rattle.lkmm.specs.Rules.{At, broken_rmw, IsAtRound};
 ghost use Rattle.lkmm.specs.Held.{held};
 
 use crate::kinds::Model;
@@ -22,17 +22,19 @@ impl Model {
         ensures none { Decides (not (is_some result)) (At (held self.now)) }
         ensures found { IfSome result (λ t. IsAtRound (held self.now) t.read t.between t.write) }
     {
-        for read in 0..self.base.rmw.events() {
-            if let Some(write) = self.split_from(read) {
-                let between = self.between(read, write);
-                return Some(SplitRmw {
-                    read,
-                    between,
-                    write,
-                });
-            }
-        }
-        None
+        (0..self.base.rmw.events()).find_map(|read| self.split_at(read))
+    }
+
+    // A round of At from one read.
+    fn split_at(&self, read: usize) -> Option<SplitRmw>
+        ensures { MatchOption result ((v : ℕ) → broken_rmw (held self.now) read v ≡ false) (λ t. (broken_rmw (held self.now) t.read t.write ≡ true) × IsAtRound (held self.now) t.read t.between t.write) }
+    {
+        let write = self.split_from(read)?;
+        Some(SplitRmw {
+            read,
+            between: self.between(read, write),
+            write,
+        })
     }
 
     // The write of a read-modify-write before which, and after whose read, a write of another thread comes.
@@ -45,11 +47,12 @@ impl Model {
     // The write between.
     fn between(&self, read: usize, write: usize) -> usize
         requires { seq (rel self.now.fre) (rel self.now.«coe») read write ≡ true }
-        ensures { (rel self.now.fre read result ≡ true) × (rel self.now.«coe» result write ≡ true) }
+        ensures read_before { rel self.now.fre read result ≡ true }
+        ensures written_after { rel self.now.«coe» result write ≡ true }
     {
-        match lowest(self.fre.row(read) & self.coe.inverse().row(write)) {
-            Some(c) => c,
-            None => unreachable(),
-        }
+        let Some(between) = lowest(self.fre.row(read) & self.coe.inverse().row(write)) else {
+            unreachable()
+        };
+        between
     }
 }

@@ -1,8 +1,12 @@
 // Program order with a fence between, or with a mark at one end.
+#![tactic(auto, unfolding(crate::specs::Model::between, crate::specs::Model::mb, crate::specs::Model::rmb, crate::specs::Model::rb_dep, crate::specs::Model::wmb, crate::specs::Model::acq_po, crate::specs::Model::po_rel, crate::specs::Model::gp, crate::specs::Model::strong_fence, crate::specs::Model::fence))]
+
 ghost use Rattle.rows.specs.Row.{bit};
+ghost use Rattle.relations.specs.Algebra.{from, to};
 ghost use Rattle.lkmm.specs.Model as model;
 ghost use Rattle.lkmm.specs.View.{Of};
 
+use crate::parts::Parts;
 use basis::Base;
 use relations::Relation;
 
@@ -13,22 +17,29 @@ pub(crate) fn between(b: &Base, set: u64) -> Relation
     b.po.to(set).seq(&b.po)
 }
 
+// The same, of pairs that begin and end in one set.
+fn fenced(b: &Base, set: u64, ends: u64) -> Relation
+    ensures { Of b.now (λ x. from (bit ends) (to (model.between (bit set) x) (bit ends))) result }
+{
+    between(b, set).to(ends).from(ends)
+}
+
 pub(crate) fn rmb(b: &Base) -> Relation
     ensures { Of b.now model.rmb result }
 {
-    between(b, b.rmbs).to(b.reads).from(b.reads)
+    fenced(b, b.rmbs, b.reads)
 }
 
 pub(crate) fn rb_dep(b: &Base) -> Relation
     ensures { Of b.now model.rb_dep result }
 {
-    between(b, b.rb_deps).to(b.reads).from(b.reads)
+    fenced(b, b.rb_deps, b.reads)
 }
 
 pub(crate) fn wmb(b: &Base) -> Relation
     ensures { Of b.now model.wmb result }
 {
-    between(b, b.wmbs).to(b.writes).from(b.writes)
+    fenced(b, b.wmbs, b.writes)
 }
 
 pub(crate) fn acq_po(b: &Base) -> Relation
@@ -56,11 +67,12 @@ pub(crate) fn strong_fence(b: &Base) -> Relation
     between(b, b.mbs).union(&gp(b))
 }
 
-pub(crate) fn fence(b: &Base, strong: &Relation, po_rel: &Relation, wmb: &Relation) -> Relation
-    requires of_strong_fence { Of b.now model.strong_fence strong.now }
-    requires of_po_rel { Of b.now model.po_rel po_rel.now }
-    requires of_wmb { Of b.now model.wmb wmb.now }
-    ensures { Of b.now model.fence result }
-{
-    strong.union(&po_rel.union(&wmb.union(&rmb(b).union(&acq_po(b)))))
+impl<'a> Parts<'a> {
+    pub(crate) fn fence(&self) -> Relation
+        ensures { Of self.now.base.now model.fence result }
+    {
+        let marked = rmb(self.base).union(&acq_po(self.base));
+        self.strong
+            .union(&self.po_rel.union(&self.wmb.union(&marked)))
+    }
 }

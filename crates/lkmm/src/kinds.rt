@@ -1,8 +1,8 @@
 // The model of a case, in a file of its own for the sake of its ghost fields.
 ghost use Rattle.std.specs.Prelude.{◌≡◌};
+ghost use Rattle.std.proofs.Props.{props};
 ghost use Rattle.relations.specs.View.{rel, size};
 ghost use Rattle.basis.specs.View.{basis_of};
-ghost use Rattle.settings.specs.Parts.{Same};
 ghost use Rattle.lkmm.specs.Model as model;
 ghost use Rattle.lkmm.specs.Rules as rules;
 
@@ -20,13 +20,13 @@ pub struct Model {
     pub prop: Relation,
     pub hb: Relation,
     pub pb: Relation,
-    ghost per_place_is: { Same (rel per_place) (rules.per_place (basis_of base)) },
-    ghost fre_is: { Same (rel fre) (model.fre (basis_of base)) },
-    ghost coe_is: { Same (rel «coe») (model.«coe» (basis_of base)) },
-    ghost strong_is: { Same (rel strong) (model.strong_fence (basis_of base)) },
-    ghost prop_is: { Same (rel prop) (model.prop (basis_of base)) },
-    ghost hb_is: { Same (rel hb) (model.hb (basis_of base)) },
-    ghost pb_is: { Same (rel pb) (model.pb (basis_of base)) },
+    ghost per_place_is: { rel per_place ≡ rules.per_place (basis_of base) } by { Prim.hlevel props },
+    ghost fre_is: { rel fre ≡ model.fre (basis_of base) } by { Prim.hlevel props },
+    ghost coe_is: { rel «coe» ≡ model.«coe» (basis_of base) } by { Prim.hlevel props },
+    ghost strong_is: { rel strong ≡ model.strong_fence (basis_of base) } by { Prim.hlevel props },
+    ghost prop_is: { rel prop ≡ model.prop (basis_of base) } by { Prim.hlevel props },
+    ghost hb_is: { rel hb ≡ model.hb (basis_of base) } by { Prim.hlevel props },
+    ghost pb_is: { rel pb ≡ model.pb (basis_of base) } by { Prim.hlevel props },
     ghost per_place_alike: { size per_place ≡ size base.po },
     ghost strong_alike: { size strong ≡ size base.po },
     ghost prop_alike: { size prop ≡ size base.po },

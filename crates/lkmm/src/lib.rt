@@ -6,6 +6,7 @@ mod communications;
 mod fences;
 mod kinds;
 mod models;
+mod parts;
 mod preserved;
 mod propagation;
 

@@ -6,21 +6,21 @@ ghost use Rattle.settings.specs.View.{scene as scene_of_setting};
 ghost use Rattle.lkmm.specs.Rules.{Scpv, Hb, Pb, SameWords, scene as scene_of_model};
 ghost use Rattle.lkmm.specs.Held.{held};
 
-use crate::communications::{coe, fr, fre, overwrite, per_place, rfe};
-use crate::fences::{fence, po_rel, strong_fence, wmb};
+use crate::communications::{coe, fr, rfe, rfi};
+use crate::fences::{po_rel, strong_fence, wmb};
 use crate::kinds::Model;
-use crate::preserved::ppo;
-use crate::propagation::{cumul_fence, hb, pb, prop};
+use crate::parts::Parts;
+use crate::preserved::dep;
 use basis::Base;
 use settings::Setting;
 use sources::Snapshot;
 
 impl Model {
-    // The model of a case.
+    // The model of a case. Computed, so `of` and no From, which would read as a change of form.
     pub fn of(case: &Snapshot) -> Model
         ensures { held result ≡ basis (execution case.now) }
     {
-        over(Base::of(case))
+        Parts::of(&Base::of(case)).model()
     }
 
     // Whether Scpv is kept: program order at one place and communications have no cycle.
@@ -49,46 +49,55 @@ impl Model {
         ensures same { scene_of_setting result ≡ scene_of_model (held self.now) }
         ensures words { SameWords (held self.now) }
     {
-        match Setting::new(
+        let Some(setting) = Setting::new(
             self.base.po,
             self.prop,
             self.hb,
             self.strong,
             self.base.crit,
             self.base.periods,
-        ) {
-            Some(setting) => setting,
-            None => unreachable(),
-        }
+        ) else {
+            unreachable()
+        };
+        setting
     }
 }
 
-// The model over a basis: each relation once.
-fn over(base: Base) -> Model
-    ensures { result.base ≡ base }
-{
-    let fr = fr(&base);
-    let rfe = rfe(&base);
-    let overwrite = overwrite(&base, &fr);
-    let strong = strong_fence(&base);
-    let po_rel = po_rel(&base);
-    let wmb = wmb(&base);
-    let ppo = ppo(&base, &overwrite, &fence(&base, &strong, &po_rel, &wmb));
-    let prop = prop(
-        &base,
-        &overwrite,
-        &cumul_fence(&base, &rfe, &strong, &po_rel, &wmb),
-        &rfe,
-    );
-    let hb = hb(&base, &prop, &ppo, &rfe);
-    Model {
-        base,
-        per_place: per_place(&base, &overwrite),
-        fre: fre(&base, &fr),
-        coe: coe(&base),
-        strong,
-        prop,
-        hb,
-        pb: pb(&base, &prop, &strong, &hb),
+impl<'a> Parts<'a> {
+    #[tactic(auto, unfolding(crate::specs::Model::overwrite))]
+    fn of(base: &'a Base) -> Parts<'a>
+        ensures { result.base.now ≡ base.now }
+    {
+        let fr = fr(base);
+        Parts {
+            base,
+            fr,
+            overwrite: base.co.union(&fr),
+            rfi: rfi(base),
+            rfe: rfe(base),
+            dep: dep(base),
+            strong: strong_fence(base),
+            po_rel: po_rel(base),
+            wmb: wmb(base),
+        }
+    }
+
+    // The model over the basis.
+    fn model(&self) -> Model
+        ensures { result.base ≡ self.now.base.now }
+    {
+        let base = *self.base;
+        let prop = self.prop();
+        let hb = self.hb(&prop);
+        Model {
+            base,
+            per_place: self.per_place(),
+            fre: self.fre(),
+            coe: coe(&base),
+            strong: self.strong,
+            prop,
+            hb,
+            pb: self.pb(&prop, &hb),
+        }
     }
 }

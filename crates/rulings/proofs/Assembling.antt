@@ -1,5 +1,5 @@
 -- The promise of a ruling, put together from what its steps leave.
-use Rattle.std.proofs.Common.{◌≡◌, ℕ, ◌<◌, Bool, true, false, ◌&&◌, ltb, ◌↔◌, List, [], length, get_or, drop, replicate, is_some, IfSome, Some, None, Decides, MatchBool, Option, sym, refl, ap, ◌∙◌, subst, ⊎_elim, arith, MatchOption}
+use Rattle.std.proofs.Common.{◌≡◌, ℕ, ◌<◌, Bool, true, false, ◌&&◌, ltb, ◌↔◌, List, [], length, get_or, replicate, is_some, IfSome, Some, None, Decides, MatchBool, Option, sym, refl, ap, ◌∙◌, subst, ⊎_elim, arith, MatchOption}
 use mathlib.Core.Path.{fun_ext}
 use lib.ListN.{get_or-replicate}
 use Rattle.std.proofs.lemmas.Bool.{and_parts, and_from, false≢true, cases_lt, le-ltb}
@@ -24,6 +24,7 @@ use Rattle.rulings.specs.declared.kinds.Breach.{Breach}
 use Rattle.rulings.specs.declared.kinds.Verdict.TheVariants.{Allowed, Forbidden}
 use Rattle.rulings.specs.declared.kinds.Rule.{Rule}
 use Rattle.rulings.specs.declared.kinds.Rule.TheVariants.{Pb, Rcu as RcuRule}
+use Rattle.rulings.specs.declared.kinds.Ruling.{Ruling}
 use Rattle.rulings.specs.declared.kinds.SheetRow.{SheetRow}
 use Rattle.rulings.specs.declared.pages.Page.{Page}
 use Rattle.rulings.specs.Pages.{Column, PageOf, OrderIn, Drawn, Listing}
@@ -39,43 +40,41 @@ none_listed : Column [] (replicate 64 255)
 none_listed i l = get_or-replicate {A = ℕ} 64 i 255 255 l
 
 -- a drawn sheet lists what its columns list
-drawn_lists : (p : Page) (fs gs ws : List ℕ) (before after : List SheetRow) (es ms xs ys : List ℕ) → Column es p.events → Column ms p.marks → Column xs fs → Column ys gs
-    → Drawn p fs gs ws before after → Lists after es ms xs ys
-drawn_lists p fs gs ws before after es ms xs ys ce cm cf cg d = record {
-  events_are = λ i l. ap (λ (r : SheetRow). r.event) (d.rows i l) ∙ ce i l;
-  marks_are = λ i l. ap (λ (r : SheetRow). r.mark) (d.rows i l) ∙ cm i l;
-  firsts_are = λ i l. ap (λ (r : SheetRow). r.first) (d.rows i l) ∙ cf i l;
-  seconds_are = λ i l. ap (λ (r : SheetRow). r.second) (d.rows i l) ∙ cg i l;
+drawn_lists : (p : Page) (fs gs ws : List ℕ) (sheet : List SheetRow) (es ms xs ys : List ℕ) → Column es p.events → Column ms p.marks → Column xs fs → Column ys gs
+    → Drawn p fs gs ws sheet → Lists sheet es ms xs ys
+drawn_lists p fs gs ws sheet es ms xs ys ce cm cf cg d = record {
+  events_are = λ i l. ap (λ (r : SheetRow). r.event) (d i l) ∙ ce i l;
+  marks_are = λ i l. ap (λ (r : SheetRow). r.mark) (d i l) ∙ cm i l;
+  firsts_are = λ i l. ap (λ (r : SheetRow). r.first) (d i l) ∙ cf i l;
+  seconds_are = λ i l. ap (λ (r : SheetRow). r.second) (d i l) ∙ cg i l;
 }
 
-pub forbidden : (b : Basis) (k : Rule) (p : Page) (ws : List ℕ) (before after : List SheetRow) → PageOf (RoundOf b k) p → Drawn p (replicate 64 255) (replicate 64 255) ws before after
-    → Breached b k ws before after (record { rule = k; length = p.steps })
-forbidden b k p ws before after h d = record {
+pub forbidden : (b : Basis) (k : Rule) (p : Page) (ws : List ℕ) (sheet : List SheetRow) → PageOf (RoundOf b k) p → Drawn p (replicate 64 255) (replicate 64 255) ws sheet
+    → Breached b k ws sheet (record { rule = k; length = p.steps })
+forbidden b k p ws sheet h d = record {
   listing = record {
     round = h.events;
     marks = h.marks;
     first = [];
     second = [];
     holds = record { round_of = h.holds; no_first = refl; no_second = refl };
-    lists = drawn_lists p (replicate 64 255) (replicate 64 255) ws before after h.events h.marks [] [] h.paged.events_are h.paged.marks_are none_listed none_listed d;
-    worded = λ i l. ap (λ (r : SheetRow). r.word) (d.rows i l);
-    rest = d.rest;
+    lists = drawn_lists p (replicate 64 255) (replicate 64 255) ws sheet h.events h.marks [] [] h.paged.events_are h.paged.marks_are none_listed none_listed d;
+    worded = λ i l. ap (λ (r : SheetRow). r.word) (d i l);
   };
   breach = λ j. record { rule = k; length = h.paged.steps_are j };
 }
 
-pub allowed : (b : Basis) (F : Table) (fs gs ws : List ℕ) (before after : List SheetRow) → OrderIn (rules.per_place b) b.count fs
-    → OrderIn (union (model.hb b) (enlarged (rules.scene b) F)) b.count gs → Drawn (record { events = replicate 64 255; marks = replicate 64 255; steps = 0 }) fs gs ws before after
-    → Listing (Allows b F) ws before after
-allowed b F fs gs ws before after o q d = record {
+pub allowed : (b : Basis) (F : Table) (fs gs ws : List ℕ) (sheet : List SheetRow) → OrderIn (rules.per_place b) b.count fs
+    → OrderIn (union (model.hb b) (enlarged (rules.scene b) F)) b.count gs → Drawn (record { events = replicate 64 255; marks = replicate 64 255; steps = 0 }) fs gs ws sheet
+    → Listing (Allows b F) ws sheet
+allowed b F fs gs ws sheet o q d = record {
   round = [];
   marks = [];
   first = o.places;
   second = q.places;
   holds = record { no_round = refl; no_marks = refl; all_first = o.all; all_second = q.all; in_first = o.order; in_second = q.order };
-  lists = drawn_lists (record { events = replicate 64 255; marks = replicate 64 255; steps = 0 }) fs gs ws before after [] [] o.places q.places none_listed none_listed o.listed q.listed d;
-  worded = λ i l. ap (λ (r : SheetRow). r.word) (d.rows i l);
-  rest = d.rest;
+  lists = drawn_lists (record { events = replicate 64 255; marks = replicate 64 255; steps = 0 }) fs gs ws sheet [] [] o.places q.places none_listed none_listed o.listed q.listed d;
+  worded = λ i l. ap (λ (r : SheetRow). r.word) (d i l);
 }
 
 -- ---- the table
@@ -179,9 +178,9 @@ precedence_is b r t sheet said d h = go (both_kept r) refl
     go false e = λ i l. h i l ∙ ap (λ (ws : List ℕ). get_or ws i 0) (no_words r t e) ∙ get_or-replicate {A = ℕ} 64 i 0 0 l
 
 -- the promise, from the listing of what the first broken rule asks for
-pub ruled : (b : Basis) (r : Reports) (t : Option FirstTable) (k : Option Rule) (before after : List SheetRow) → Sound (rules.scene b) → Reported b r → Decided (rules.scene b) t → k ≡ first_broken r
-    → (listing : Listing (Shows b (table (words_of r t)) k) (words_of r t) before after) → Ruled b after (record { reports = r; verdict = verdict_of k (length listing.round) })
-ruled b r t k before after ok said d e listing = record {
+pub ruled : (b : Basis) (r : Reports) (t : Option FirstTable) (k : Option Rule) (sheet : List SheetRow) → Sound (rules.scene b) → Reported b r → Decided (rules.scene b) t → k ≡ first_broken r
+    → (listing : Listing (Shows b (table (words_of r t)) k) (words_of r t) sheet) → Ruled b sheet (record { reports = r; verdict = verdict_of k (length listing.round) })
+ruled b r t k sheet ok said d e listing = record {
   reports = said;
   round = listing.round;
   marks = listing.marks;
@@ -190,20 +189,20 @@ ruled b r t k before after ok said d e listing = record {
   verdict = ap (λ (j : Option Rule). verdict_of j (length listing.round)) e;
   listed = listing.lists;
   shown =
-      subst (λ (j : Option Rule). Shows b (words after) j listing.round listing.marks listing.first listing.second) e
-      (subst (λ (F : Table). Shows b F k listing.round listing.marks listing.first listing.second) (sym (words_are (words_of r t) after listing.worded)) listing.holds);
+      subst (λ (j : Option Rule). Shows b (words sheet) j listing.round listing.marks listing.first listing.second) e
+      (subst (λ (F : Table). Shows b F k listing.round listing.marks listing.first listing.second) (sym (words_are (words_of r t) sheet listing.worded)) listing.holds);
   law = law_holds b r said ok;
-  precedence = precedence_is b r t after said d listing.worded;
+  precedence = precedence_is b r t sheet said d listing.worded;
 }
 
 -- forbidden by a broken rule
-pub ruled_forbidden : (b : Basis) (r : Reports) (t : Option FirstTable) (k : Rule) (ws : List ℕ) (before after : List SheetRow) (breach : Breach) → Sound (rules.scene b) → Reported b r → Decided (rules.scene b) t
-    → ws ≡ words_of r t → Some k ≡ first_broken r → Breached b k ws before after breach → Ruled b after (record { reports = r; verdict = Forbidden breach }) × (drop 64 after ≡ drop 64 before)
-ruled_forbidden b r t k ws before after breach ok said d e q h =
-    (subst (λ (v : Breach). Ruled b after (record { reports = r; verdict = Forbidden v })) (sym h.breach) (go ws e h.listing), h.listing.rest)
+pub ruled_forbidden : (b : Basis) (r : Reports) (t : Option FirstTable) (k : Rule) (ws : List ℕ) (sheet : List SheetRow) (breach : Breach) → Sound (rules.scene b) → Reported b r → Decided (rules.scene b) t
+    → ws ≡ words_of r t → Some k ≡ first_broken r → Breached b k ws sheet breach → Ruled b sheet (record { reports = r; verdict = Forbidden breach })
+ruled_forbidden b r t k ws sheet breach ok said d e q h =
+    subst (λ (v : Breach). Ruled b sheet (record { reports = r; verdict = Forbidden v })) (sym h.breach) (go ws e h.listing)
   where
-    go : (vs : List ℕ) → vs ≡ words_of r t → (l : Listing (Forbids b k) vs before after) → Ruled b after (record { reports = r; verdict = Forbidden (record { rule = k; length = length l.round }) })
-    go vs f l = ruled b r t (Some k) before after ok said d q (record { round = l.round; marks = l.marks; first = l.first; second = l.second; holds = l.holds; lists = l.lists; worded = λ i s. l.worded i s ∙ ap (λ (us : List ℕ). get_or us i 0) f; rest = l.rest })
+    go : (vs : List ℕ) → vs ≡ words_of r t → (l : Listing (Forbids b k) vs sheet) → Ruled b sheet (record { reports = r; verdict = Forbidden (record { rule = k; length = length l.round }) })
+    go vs f l = ruled b r t (Some k) sheet ok said d q (record { round = l.round; marks = l.marks; first = l.first; second = l.second; holds = l.holds; lists = l.lists; worded = λ i s. l.worded i s ∙ ap (λ (us : List ℕ). get_or us i 0) f })
 
 -- both reports that the table depends on, where no rule is broken
 both_true : (r : Reports) → None ≡ first_broken r → both_kept r ≡ true
@@ -216,15 +215,15 @@ orderable b r None said d q = false≢true (d.rule.1 (says_kept r.rcu (rules.Rcu
 orderable b r (Some t) said d q = (d.first (says_kept r.pb (rules.Pb b) (all_kept r (sym q)).3 (said Pb))).obeys
 
 -- allowed
-pub ruled_allowed : (b : Basis) (r : Reports) (t : Option FirstTable) (ws : List ℕ) (before after : List SheetRow) → Sound (rules.scene b) → Reported b r → Decided (rules.scene b) t
-    → ws ≡ words_of r t → None ≡ first_broken r → AllowedBy b t ws before after → Ruled b after (record { reports = r; verdict = Allowed }) × (drop 64 after ≡ drop 64 before)
-ruled_allowed b r None ws before after ok said d e q h = absurd h
-ruled_allowed b r (Some t) ws before after ok said d e q h = (ruled b r (Some t) None before after ok said d q listing, h.rest)
+pub ruled_allowed : (b : Basis) (r : Reports) (t : Option FirstTable) (ws : List ℕ) (sheet : List SheetRow) → Sound (rules.scene b) → Reported b r → Decided (rules.scene b) t
+    → ws ≡ words_of r t → None ≡ first_broken r → AllowedBy b t ws sheet → Ruled b sheet (record { reports = r; verdict = Allowed })
+ruled_allowed b r None ws sheet ok said d e q h = absurd h
+ruled_allowed b r (Some t) ws sheet ok said d e q h = ruled b r (Some t) None sheet ok said d q listing
   where
     rows_are : t.rows ≡ words_of r (Some t)
     rows_are = rw (both_true r q) refl
 
-    listing : Listing (Shows b (table (words_of r (Some t))) None) (words_of r (Some t)) before after
+    listing : Listing (Shows b (table (words_of r (Some t))) None) (words_of r (Some t)) sheet
     listing = record {
       round = h.round;
       marks = h.marks;
@@ -233,5 +232,37 @@ ruled_allowed b r (Some t) ws before after ok said d e q h = (ruled b r (Some t)
       holds = subst (λ (us : List ℕ). Allows b (table us) h.round h.marks h.first h.second) rows_are h.holds;
       lists = h.lists;
       worded = λ i s. h.worded i s ∙ ap (λ (us : List ℕ). get_or us i 0) e;
-      rest = h.rest;
     }
+
+-- ---- the rows that are written
+
+-- a promise of some rows is one of every sheet that begins with them
+module _ (sheet sheet' : List SheetRow) (same : (i : ℕ) → i < 64 → row sheet' i ≡ row sheet i) where
+  same_words : words sheet' ≡ words sheet
+  same_words =
+      fun_ext λ l. fun_ext λ s. ⊎_elim (λ k. ap (λ (r : SheetRow). ltb l 64 && (ltb s 64 && bit r.word s)) (same l k)) (λ k. rw (le-ltb l 64 k) refl) (cases_lt l 64)
+
+  same_precedence : (b : Basis) (e : Bool) → MatchBool e (FirstWords b sheet) ((i : ℕ) → i < 64 → (row sheet i).word ≡ 0)
+      → MatchBool e (FirstWords b sheet') ((i : ℕ) → i < 64 → (row sheet' i).word ≡ 0)
+  same_precedence b true p =
+      record { first = subst (First (rules.scene b)) (sym same_words) p.first; others = subst (λ (F : Table). (l s : ℕ) → F l s ≡ true → pair (rules.scene b) l s ≡ true) (sym same_words) p.others }
+  same_precedence b false p = λ i l. ap (λ (r : SheetRow). r.word) (same i l) ∙ p i l
+
+  pub ruled_rows : (b : Basis) (r : Ruling) → Ruled b sheet r → Ruled b sheet' r
+  ruled_rows b r h = record {
+    reports = h.reports;
+    round = h.round;
+    marks = h.marks;
+    first = h.first;
+    second = h.second;
+    verdict = h.verdict;
+    listed = record {
+      events_are = λ i l. ap (λ (v : SheetRow). v.event) (same i l) ∙ h.listed.events_are i l;
+      marks_are = λ i l. ap (λ (v : SheetRow). v.mark) (same i l) ∙ h.listed.marks_are i l;
+      firsts_are = λ i l. ap (λ (v : SheetRow). v.first) (same i l) ∙ h.listed.firsts_are i l;
+      seconds_are = λ i l. ap (λ (v : SheetRow). v.second) (same i l) ∙ h.listed.seconds_are i l;
+    };
+    shown = subst (λ (F : Table). Shows b F (first_broken r.reports) h.round h.marks h.first h.second) (sym same_words) h.shown;
+    law = h.law;
+    precedence = same_precedence b (both_kept r.reports) h.precedence;
+  }

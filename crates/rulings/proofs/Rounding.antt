@@ -1,12 +1,10 @@
 -- Rounds of the model's rules, found in the relations of the code.
-use Rattle.std.proofs.Common.{◌≡◌, ℕ, ◌<◌, ◌∙◌, subst}
-use mathlib.Core.Path.{fun_ext}
+use Rattle.std.proofs.Common.{◌≡◌, ℕ, ◌<◌, ap, ◌∙◌, subst}
 use Rattle.relations.specs.Algebra.{Rel}
 use Rattle.relations.specs.Chains.{Acyclic}
 use Rattle.relations.proofs.Ranges.{on_all}
 use Rattle.grace.specs.Scene.{Scene}
 use Rattle.grace.specs.Law.{Rcu}
-use Rattle.settings.specs.Parts.{Same}
 use Rattle.lkmm.specs.Held.{held}
 use Rattle.lkmm.specs.Rules.{IsAtRound}
 use Rattle.lkmm.specs.declared.kinds.Model.{Model}
@@ -14,12 +12,9 @@ use Rattle.basis.specs.Basis.{Basis}
 use Rattle.rulings.specs.Rules.{Keeps}
 use Rattle.rulings.specs.declared.kinds.Rule.{Rule}
 
-pub same_rel : (r s : Rel) → Same r s → r ≡ s
-same_rel r s h = fun_ext λ a. fun_ext λ b. h a b
-
 -- where the model's relation has a cycle, so has the code's
-pub cyclic_same : (r s : Rel) → Same r s → (Acyclic s → ⊥) → Acyclic r → ⊥
-cyclic_same r s h = subst (λ (q : Rel). (Acyclic q → ⊥) → Acyclic r → ⊥) (same_rel r s h) (λ f. f)
+pub cyclic_same : (r s : Rel) → r ≡ s → (Acyclic s → ⊥) → Acyclic r → ⊥
+cyclic_same r s e h = rw e h
 
 -- the same for scenes
 pub broken_same : (x y : Scene) → x ≡ y → (Rcu y y.strong → ⊥) → Rcu x x.strong → ⊥
@@ -29,7 +24,7 @@ broken_same x y e = subst (λ (z : Scene). (Rcu z z.strong → ⊥) → Rcu x x.
 pub split_few : (m : Model) (a c v : ℕ) → IsAtRound (held m) a c v → (a < 64) × ((c < 64) × (v < 64))
 split_few m a c v h =
     let p = on_all m.base.rmw a v h.paired in
-    let q = on_all m.fre a c (m.fre_is a c ∙ h.read_before) in
+    let q = on_all m.fre a c (ap (λ (r : Rel). r a c) m.fre_is ∙ h.read_before) in
     (p.0, (q.1, p.1))
 
 -- a rule that is broken, by its name

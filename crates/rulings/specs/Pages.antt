@@ -1,6 +1,6 @@
 -- Columns of the sheet as the code fills them.
 -- For the contracts of private functions; no public contract cites it.
-use Rattle.std.specs.Prelude.{◌≡◌, ℕ, ◌<◌, List, length, get_or, drop, slice_index, slice_index_or}
+use Rattle.std.specs.Prelude.{◌≡◌, ℕ, ◌<◌, List, length, get_or, slice_index, slice_index_or}
 use Rattle.rulings.specs.declared.kinds.SheetRow.{SheetRow}
 use Rattle.rulings.specs.declared.pages.Page.{Page}
 use Rattle.relations.specs.Algebra.{Rel}
@@ -31,18 +31,16 @@ pub record OrderIn (r : Rel) (n : ℕ) (column : List ℕ) : Type 0 where
   pub order : IsOrder r n (λ a. get_or places a 255)
   pub listed : Column places column
 
--- the first 64 rows are made of these columns, and the others stay
-pub record Drawn (page : Page) (first second words : List ℕ) (before after : List SheetRow) : Type 0 where
-  pub rows : (i : ℕ) → i < 64 → row after i ≡ record { event = slice_index_or page.events i 255; mark = slice_index_or page.marks i 255; first = slice_index_or first i 255; second = slice_index_or second i 255; word = slice_index words i }
-  pub rest : drop 64 after ≡ drop 64 before
+-- the rows are made of these columns
+abbrev pub Drawn : Page → List ℕ → List ℕ → List ℕ → List SheetRow → Type 0
+Drawn page first second words sheet = (i : ℕ) → i < 64 → row sheet i ≡ record { event = slice_index_or page.events i 255; mark = slice_index_or page.marks i 255; first = slice_index_or first i 255; second = slice_index_or second i 255; word = slice_index words i }
 
--- a sheet that lists something of which P holds, beside these words; rows past the 64th stay
-pub record Listing (P : List ℕ → List ℕ → List ℕ → List ℕ → Type 0) (words : List ℕ) (before after : List SheetRow) : Type 0 where
+-- a sheet that lists something of which P holds, beside these words
+pub record Listing (P : List ℕ → List ℕ → List ℕ → List ℕ → Type 0) (words : List ℕ) (sheet : List SheetRow) : Type 0 where
   pub round : List ℕ
   pub marks : List ℕ
   pub first : List ℕ
   pub second : List ℕ
   pub holds : P round marks first second
-  pub lists : Lists after round marks first second
-  pub worded : (i : ℕ) → i < 64 → (row after i).word ≡ slice_index words i
-  pub rest : drop 64 after ≡ drop 64 before
+  pub lists : Lists sheet round marks first second
+  pub worded : (i : ℕ) → i < 64 → (row sheet i).word ≡ slice_index words i

@@ -1,5 +1,5 @@
 -- What a ruling promises, sentence by sentence.
-use Rattle.std.specs.Prelude.{◌≡◌, ℕ, ◌<◌, ◌≤◌, Bool, true, false, ◌&&◌, ◌↔◌, List, [], ◌∷◌, length, get_or, drop, Some, None, Ok, Err, MatchBool, Option, Result, nat_lt, slice_index_or}
+use Rattle.std.specs.Prelude.{◌≡◌, ℕ, ◌<◌, ◌≤◌, Bool, true, false, not, ◌&&◌, ◌↔◌, List, [], length, get_or, drop, find, Some, None, Ok, Err, MatchBool, Option, Result, nat_lt, slice_index_or}
 use Rattle.rows.specs.Row.{bit}
 use Rattle.relations.specs.Algebra.{union}
 use Rattle.relations.specs.Chains.{Acyclic}
@@ -46,24 +46,19 @@ Says Broken P = P → ⊥
 abbrev pub Reported : Basis → Reports → Type 0
 Reported b r = (k : Rule) → Says (report_of r k) (Keeps b k)
 
--- the first rule of a list that is reported broken
-abbrev pub first_in : List Rule → Reports → Option Rule
-first_in [] r = None
-first_in (k ∷ ks) r = elim (report_of r k) [ Kept ↦ first_in ks r | Broken ↦ Some k ]
+-- whether a report says kept
+abbrev pub kept : Report → Bool
+kept Kept = true
+kept Broken = false
 
 -- the first broken rule: none where every rule is reported kept
 abbrev pub first_broken : Reports → Option Rule
-first_broken = first_in rules
+first_broken r = find (λ k. not (kept (report_of r k))) rules
 
 -- allowed where no rule is broken, else forbidden by the first broken one, with the length of its round
 abbrev pub verdict_of : Option Rule → ℕ → Verdict
 verdict_of None n = Allowed
 verdict_of (Some k) n = Forbidden (record { rule = k; length = n })
-
--- whether a report says kept
-abbrev pub kept : Report → Bool
-kept Kept = true
-kept Broken = false
 
 -- Pb and Rcu are both reported kept
 abbrev pub both_kept : Reports → Bool

@@ -14,8 +14,8 @@ use Rattle.rulings.specs.Pages.{Listing}
 use Rattle.rulings.specs.Rulings.{Forbids, Allows}
 
 -- the breach of a rule, with its round on the sheet
-pub record Breached (b : Basis) (k : Rule) (words : List ℕ) (before after : List SheetRow) (r : Breach) : Type 0 where
-  pub listing : Listing (Forbids b k) words before after
+pub record Breached (b : Basis) (k : Rule) (words : List ℕ) (sheet : List SheetRow) (r : Breach) : Type 0 where
+  pub listing : Listing (Forbids b k) words sheet
   pub breach : r ≡ record { rule = k; length = length listing.round }
 
 -- there is a table, and it leaves enlarged pb without a cycle
@@ -23,5 +23,5 @@ abbrev pub Orderable : Scene → Option FirstTable → Type 0
 Orderable x t = MatchOption t ⊥ (λ t. Acyclic (enlarged x (table t.rows)))
 
 -- the two orders of a case that keeps every rule, on the sheet
-abbrev pub AllowedBy : Basis → Option FirstTable → List ℕ → List SheetRow → List SheetRow → Type 0
-AllowedBy b t words before after = MatchOption t ⊥ (λ t. Listing (Allows b (table t.rows)) words before after)
+abbrev pub AllowedBy : Basis → Option FirstTable → List ℕ → List SheetRow → Type 0
+AllowedBy b t words sheet = MatchOption t ⊥ (λ t. Listing (Allows b (table t.rows)) words sheet)

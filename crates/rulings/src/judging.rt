@@ -1,7 +1,6 @@
 // Judging a case: the reports, the verdict, and the sheet that shows why.
-ghost use Rattle.std.specs.Prelude.{◌≡◌, ◌≤◌, List, [], length, drop};
+ghost use Rattle.std.specs.Prelude.{◌≡◌};
 ghost use Rattle.relations.specs.Algebra.{union};
-ghost use Rattle.relations.specs.Chains.{Acyclic};
 ghost use Rattle.relations.specs.Table.{table as rows_table};
 ghost use Rattle.grace.specs.Law.{enlarged};
 ghost use Rattle.settings.specs.View.{scene as scene_of_setting};
@@ -12,18 +11,18 @@ ghost use Rattle.lkmm.specs.Rules.{Scpv as KeepsScpv, Hb as KeepsHb, scene as sc
 ghost use Rattle.lkmm.specs.View.{Is};
 ghost use Rattle.rulings.specs.Steps.{Breached, Orderable, AllowedBy};
 ghost use Rattle.rulings.specs.Rules.{Keeps};
-ghost use Rattle.rulings.specs.Rulings.{Judged, Ruled, too_short};
+ghost use Rattle.rulings.specs.Rulings.{Judged, Ruled};
 
 use crate::kinds::{Breach, Rule, Ruling, SheetRow, Verdict};
 use crate::pages::{NONE, Page};
+use crate::questions::Question;
 use crate::reporting::{broken_first, report_all};
 use crate::rounds_of::round_of;
-use crate::sheets::{draw, places, words};
+use crate::sheets::{Sheet, draw, places, words};
 use executions::{Cause, Fault, Layer};
 use lkmm::Model;
 use precedence::{FirstTable, enlarged_pb, first_table};
 use relations::Relation;
-use settings::Setting;
 use sources::CaseSource;
 use wellformed::check;
 
@@ -35,103 +34,71 @@ pub fn judge<S: CaseSource>(source: &S, sheet: &mut [SheetRow]) -> Result<Ruling
     ensures { Judged (bounded (S.CaseSource.meaning source.now)) sheet.old sheet.new result }
 {
     if sheet.len() < ROWS {
-        return Err(short_sheet());
+        return Err(Layer::Check.fault(Cause::TooShort, 0));
     }
-    match check(source) {
-        Ok(case) => Ok(rule_on(&Model::of(&case), sheet)),
-        Err(fault) => Err(fault),
-    }
-}
-
-fn short_sheet() -> Fault
-    ensures { result ≡ too_short }
-{
-    Fault {
-        cause: Cause::TooShort,
-        layer: Layer::Check,
-        place: 0,
-    }
+    let case = check(source)?;
+    let model = Model::of(&case);
+    let (ruling, drawn) = rule_on(&Question::of(&model));
+    sheet[..ROWS].copy_from_slice(&drawn);
+    Ok(ruling)
 }
 
 // Rules on a case by its model.
-fn rule_on(model: &Model, sheet: &mut [SheetRow]) -> Ruling
-    requires { 64 ≤ length sheet.old }
-    ensures ruled { Ruled (held model.now) sheet.new result }
-    ensures rest { drop 64 sheet.new ≡ drop 64 sheet.old }
+fn rule_on(question: &Question) -> (Ruling, Sheet)
+    ensures { Ruled (held question.now.model.now) result.1 result.0 }
 {
-    let setting = model.setting();
-    let table = first_table(&setting);
-    let reports = report_all(model, table.is_some());
+    let table = first_table(&question.setting);
+    let reports = report_all(question.model, table.is_some());
     let words = words(&reports, &table);
-    let verdict = match broken_first(reports) {
-        Some(rule) => Verdict::Forbidden(forbid(model, &setting, rule, &words, sheet)),
-        None => {
-            allow(model, &setting, &table, &words, sheet);
-            Verdict::Allowed
+    let (verdict, sheet) = match broken_first(reports) {
+        Some(rule) => {
+            let (breach, sheet) = forbid(question, rule, &words);
+            (Verdict::Forbidden(breach), sheet)
         }
+        None => (Verdict::Allowed, allow(question, &table, &words)),
     };
-    Ruling { reports, verdict }
+    (Ruling { reports, verdict }, sheet)
 }
 
 // Lists a round of a broken rule.
-fn forbid(
-    model: &Model,
-    setting: &Setting,
-    rule: Rule,
-    words: &[u64; 64],
-    sheet: &mut [SheetRow],
-) -> Breach
-    requires same_scene { scene_of_setting setting.now ≡ scene_of_model (held model.now) }
-    requires is_broken { Keeps (held model.now) rule → ⊥ }
-    requires room { 64 ≤ length sheet.old }
-    ensures { Breached (held model.now) rule words.now sheet.old sheet.new result }
+fn forbid(question: &Question, rule: Rule, words: &[u64; 64]) -> (Breach, Sheet)
+    requires { Keeps (held question.now.model.now) rule → ⊥ }
+    ensures { Breached (held question.now.model.now) rule words.now result.1 result.0 }
 {
-    let page = round_of(model, setting, rule);
-    draw(sheet, &page, &[NONE; 64], &[NONE; 64], words);
-    Breach {
+    let page = round_of(question, rule);
+    let breach = Breach {
         rule,
         length: page.steps,
-    }
+    };
+    (breach, draw(&page, &[NONE; 64], &[NONE; 64], words))
 }
 
 // Lists the two orders of a case that keeps every rule.
-fn allow(
-    model: &Model,
-    setting: &Setting,
-    table: &Option<FirstTable>,
-    words: &[u64; 64],
-    sheet: &mut [SheetRow],
-)
-    requires same_scene { scene_of_setting setting.now ≡ scene_of_model (held model.now) }
-    requires both_kept { (KeepsScpv (held model.now)) × (KeepsHb (held model.now)) }
-    requires orderable { Orderable (scene_of_model (held model.now)) table.now }
-    requires room { 64 ≤ length sheet.old }
-    ensures { AllowedBy (held model.now) table.now words.now sheet.old sheet.new }
+fn allow(question: &Question, table: &Option<FirstTable>, words: &[u64; 64]) -> Sheet
+    requires scpv_kept { KeepsScpv (held question.now.model.now) }
+    requires hb_kept { KeepsHb (held question.now.model.now) }
+    requires orderable { Orderable (scene_of_model (held question.now.model.now)) table.now }
+    ensures { AllowedBy (held question.now.model.now) table.now words.now result }
 {
+    let Some(first) = table else { unreachable() };
     let page = Page {
         events: [NONE; 64],
         marks: [NONE; 64],
         steps: 0,
     };
-    match table {
-        Some(first) => {
-            let joint = joint(model, setting, first);
-            draw(
-                sheet,
-                &page,
-                &places(&model.per_place),
-                &places(&joint),
-                words,
-            );
-        }
-        None => unreachable(),
-    }
+    let joint = joint(question, first);
+    draw(
+        &page,
+        &places(&question.model.per_place),
+        &places(&joint),
+        words,
+    )
 }
 
 // What the second order rises along: happens-before, and propagates-before enlarged by the table.
-fn joint(model: &Model, setting: &Setting, table: &FirstTable) -> Relation
-    requires { scene_of_setting setting.now ≡ scene_of_model (held model.now) }
-    ensures { Is (held model.now).count (union (hb (held model.now)) (enlarged (scene_of_model (held model.now)) (rows_table table.now.rows))) result }
+fn joint(question: &Question, table: &FirstTable) -> Relation
+    ensures { Is (held question.now.model.now).count (union (hb (held question.now.model.now)) (enlarged (scene_of_model (held question.now.model.now)) (rows_table table.now.rows))) result }
 {
-    model.hb.union(&enlarged_pb(setting, table))
+    let model = question.model;
+    model.hb.union(&enlarged_pb(&question.setting, table))
 }

@@ -10,6 +10,11 @@ pub enum Rule {
     Rcu,
 }
 
+impl Rule {
+    // All of them, in their order.
+    pub const ALL: [Rule; 5] = [Rule::Scpv, Rule::At, Rule::Hb, Rule::Pb, Rule::Rcu];
+}
+
 // What is reported of a rule.
 #[derive(Clone, Copy, PartialEq, Eq, Debug)]
 pub enum Report {
@@ -34,6 +39,7 @@ pub struct Breach {
     pub length: usize,
 }
 
+// Public under the names of the field, where Option<Breach> would leave the reader to know that none is allowed.
 #[derive(Clone, Copy, PartialEq, Eq, Debug)]
 pub enum Verdict {
     Allowed,
@@ -46,7 +52,7 @@ pub struct Ruling {
     pub verdict: Verdict,
 }
 
-// Row i of the sheet. The first four are 255 where there is none.
+// Row i of the sheet. The first four are 255 where there is none: numbers and no options or marks, since this is the published format.
 #[derive(Clone, Copy, PartialEq, Eq, Debug)]
 pub struct SheetRow {
     // The event at place i of the round, and the mark of the step from it: 1 period, 2 section, 0 for rules other than Rcu.

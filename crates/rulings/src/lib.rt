@@ -5,6 +5,7 @@ pub mod judging;
 pub mod kinds;
 pub mod names;
 mod pages;
+mod questions;
 mod reporting;
 mod rounds_of;
 pub mod shapes;

@@ -1,13 +1,11 @@
 // The columns of the sheet that list a round.
-ghost use Rattle.std.specs.Prelude.{◌≡◌, ◌<◌, ◌≤◌, List, [], ◌∷◌, map, length, take, replicate};
+ghost use Rattle.std.specs.Prelude.{◌≤◌, length};
 ghost use Rattle.relations.specs.Chains.{Acyclic};
 ghost use Rattle.relations.specs.View.{rel};
-ghost use Rattle.rounds.specs.Marks.{number};
-ghost use Rattle.rulings.specs.Pages.{Column as Listing, Paged, PageOf};
+ghost use Rattle.rulings.specs.Pages.{Column as Listing, PageOf};
 ghost use Rattle.rulings.specs.Rules.{CycleRound};
 
 use relations::Relation;
-use rounds::Mark;
 use searches::shortest_cycle;
 
 // A byte for each row: what is listed, and 255 after its end.
@@ -16,7 +14,7 @@ pub(crate) type Column = [u8; 64];
 // Nothing is listed.
 pub(crate) const NONE: u8 = 255;
 
-// A round as the sheet lists it.
+// A round as the sheet lists it: columns, since each column of the published sheet ends where its own list does.
 #[derive(Clone, Copy)]
 pub(crate) struct Page {
     pub(crate) events: Column,
@@ -24,27 +22,13 @@ pub(crate) struct Page {
     pub(crate) steps: usize,
 }
 
-// The first n of some bytes, and 255 after them.
-pub(crate) fn padded(bytes: &Column, n: usize) -> Column
-    requires { n ≤ 64 }
-    ensures { Listing (take n bytes.now) result }
+// Some bytes, and 255 after them.
+pub(crate) fn padded(bytes: &[u8]) -> Column
+    requires { length bytes.now ≤ 64 }
+    ensures { Listing bytes.now result }
 {
     let mut column = [NONE; 64];
-    for i in 0..n {
-        column[i] = bytes[i];
-    }
-    column
-}
-
-// The numbers of the first n marks, and 255 after them.
-pub(crate) fn numbers(marks: &[Mark; 64], n: usize) -> Column
-    requires { n ≤ 64 }
-    ensures { Listing (map number (take n marks.now)) result }
-{
-    let mut column = [NONE; 64];
-    for i in 0..n {
-        column[i] = marks[i].number();
-    }
+    column[..bytes.len()].copy_from_slice(bytes);
     column
 }
 
@@ -53,12 +37,12 @@ pub(crate) fn cycle_page(relation: &Relation) -> Page
     requires { Acyclic (rel relation.now) → ⊥ }
     ensures { PageOf (CycleRound (rel relation.now)) result }
 {
-    match shortest_cycle(relation) {
-        Some(cycle) => Page {
-            events: padded(&cycle.events, cycle.steps),
-            marks: padded(&[0; 64], cycle.steps),
-            steps: cycle.steps,
-        },
-        None => unreachable(),
+    let Some(cycle) = shortest_cycle(relation) else {
+        unreachable()
+    };
+    Page {
+        events: padded(&cycle.events[..cycle.steps]),
+        marks: padded(&[0; 64][..cycle.steps]),
+        steps: cycle.steps,
     }
 }

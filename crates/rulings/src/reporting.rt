@@ -1,12 +1,27 @@
 // The reports of the rules.
-ghost use Rattle.std.specs.Prelude.{◌≡◌, not, if◌then◌else◌, Decides};
+ghost use Rattle.std.specs.Prelude.{◌≡◌, if◌then◌else◌, Decides};
 ghost use Rattle.rulings.specs.declared.kinds.Report.TheVariants.{Kept as KeptReport, Broken as BrokenReport};
 ghost use Rattle.lkmm.specs.Held.{held};
 ghost use Rattle.lkmm.specs.Rules.{Rcu as KeepsRcu};
-ghost use Rattle.rulings.specs.Rulings.{Reported, first_broken, kept as is_kept};
+ghost use Rattle.rulings.specs.Rulings.{Reported, first_broken, report_of};
 
 use crate::kinds::{Report, Reports, Rule};
 use lkmm::Model;
+
+impl Reports {
+    // The report of a rule.
+    pub fn of(&self, rule: Rule) -> Report
+        ensures { result ≡ report_of self.now rule }
+    {
+        match rule {
+            Rule::Scpv => self.scpv,
+            Rule::At => self.at,
+            Rule::Hb => self.hb,
+            Rule::Pb => self.pb,
+            Rule::Rcu => self.rcu,
+        }
+    }
+}
 
 // A report of each rule; Rcu is decided with the precedence table.
 pub(crate) fn report_all(model: &Model, rcu: bool) -> Reports
@@ -22,6 +37,7 @@ pub(crate) fn report_all(model: &Model, rcu: bool) -> Reports
     }
 }
 
+// A function and no From: `Report::from(true)` would not say what is true.
 fn report(kept: bool) -> Report
     ensures { result ≡ (if kept then KeptReport else BrokenReport) }
 {
@@ -32,29 +48,8 @@ fn report(kept: bool) -> Report
 pub(crate) fn broken_first(reports: Reports) -> Option<Rule>
     ensures { result ≡ first_broken reports }
 {
-    if !is_kept(reports.scpv) {
-        return Some(Rule::Scpv);
-    }
-    if !is_kept(reports.at) {
-        return Some(Rule::At);
-    }
-    if !is_kept(reports.hb) {
-        return Some(Rule::Hb);
-    }
-    if !is_kept(reports.pb) {
-        return Some(Rule::Pb);
-    }
-    if !is_kept(reports.rcu) {
-        return Some(Rule::Rcu);
-    }
-    None
-}
-
-pub(crate) fn is_kept(report: Report) -> bool
-    ensures { result ≡ is_kept report }
-{
-    match report {
-        Report::Kept => true,
-        Report::Broken => false,
-    }
+    Rule::ALL
+        .iter()
+        .copied()
+        .find(|rule| reports.of(*rule) == Report::Broken)
 }

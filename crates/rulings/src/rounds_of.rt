@@ -1,30 +1,30 @@
 // A shortest round of each rule, as the sheet lists it.
-ghost use Rattle.std.specs.Prelude.{◌≡◌, ◌<◌, List, [], ◌∷◌};
+ghost use Rattle.std.specs.Prelude.{◌<◌, List, [], ◌∷◌};
 ghost use Rattle.grace.specs.Law.{Rcu as KeepsRcu};
 ghost use Rattle.settings.specs.View.{scene as scene_of_setting};
 ghost use Rattle.lkmm.specs.Held.{held};
-ghost use Rattle.lkmm.specs.Rules.{scene as scene_of_model};
 ghost use Rattle.rulings.specs.Pages.{Paged, PageOf};
 ghost use Rattle.rulings.specs.Rules.{Keeps, MarkedRound, SplitRound, RoundOf};
 
 use crate::kinds::Rule;
-use crate::pages::{NONE, Page, cycle_page, numbers, padded};
+use crate::pages::{Page, cycle_page, padded};
+use crate::questions::Question;
 use lkmm::{Model, SplitRmw};
-use rounds::shortest_round;
+use rounds::{Mark, shortest_round};
 use settings::Setting;
 
-// A round of a rule that is broken.
-pub(crate) fn round_of(model: &Model, setting: &Setting, rule: Rule) -> Page
-    requires same_scene { scene_of_setting setting.now ≡ scene_of_model (held model.now) }
-    requires is_broken { Keeps (held model.now) rule → ⊥ }
-    ensures { PageOf (RoundOf (held model.now) rule) result }
+// A round of a rule that is broken. A match and no closures: the rules are a closed list, and each has its own proof of what its round is.
+pub(crate) fn round_of(question: &Question, rule: Rule) -> Page
+    requires { Keeps (held question.now.model.now) rule → ⊥ }
+    ensures { PageOf (RoundOf (held question.now.model.now) rule) result }
 {
+    let model = question.model;
     match rule {
         Rule::Scpv => cycle_page(&model.per_place),
         Rule::At => split_page(model),
         Rule::Hb => cycle_page(&model.hb),
         Rule::Pb => cycle_page(&model.pb),
-        Rule::Rcu => marked_page(setting),
+        Rule::Rcu => marked_page(&question.setting),
     }
 }
 
@@ -33,28 +33,23 @@ fn split_page(model: &Model) -> Page
     requires { Keeps (held model.now) Rule.At → ⊥ }
     ensures { PageOf (SplitRound (held model.now)) result }
 {
-    match model.split_rmw() {
-        Some(split) => three(split),
-        None => unreachable(),
-    }
+    let Some(split) = model.split_rmw() else {
+        unreachable()
+    };
+    three(split)
 }
 
 // Its three events.
 fn three(split: SplitRmw) -> Page
-    requires { (split.read < 64) × ((split.between < 64) × (split.write < 64)) }
+    requires read { split.read < 64 }
+    requires between { split.between < 64 }
+    requires write { split.write < 64 }
     ensures { Paged (split.read ∷ split.between ∷ split.write ∷ []) (0 ∷ 0 ∷ 0 ∷ []) result }
 {
-    let mut events = [NONE; 64];
-    let mut marks = [NONE; 64];
-    events[0] = split.read as u8;
-    events[1] = split.between as u8;
-    events[2] = split.write as u8;
-    marks[0] = 0;
-    marks[1] = 0;
-    marks[2] = 0;
+    let events = [split.read as u8, split.between as u8, split.write as u8];
     Page {
-        events,
-        marks,
+        events: padded(&events),
+        marks: padded(&[0; 3]),
         steps: 3,
     }
 }
@@ -64,12 +59,13 @@ fn marked_page(setting: &Setting) -> Page
     requires { KeepsRcu (scene_of_setting setting.now) (scene_of_setting setting.now).strong → ⊥ }
     ensures { PageOf (MarkedRound (scene_of_setting setting.now)) result }
 {
-    match shortest_round(setting) {
-        Some(round) => Page {
-            events: padded(&round.events, round.steps),
-            marks: numbers(&round.marks, round.steps),
-            steps: round.steps,
-        },
-        None => unreachable(),
+    let Some(round) = shortest_round(setting) else {
+        unreachable()
+    };
+    let marks = round.marks.map(Mark::number);
+    Page {
+        events: padded(&round.events[..round.steps]),
+        marks: padded(&marks[..round.steps]),
+        steps: round.steps,
     }
 }

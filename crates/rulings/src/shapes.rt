@@ -14,6 +14,7 @@ pub struct Shape {
 }
 
 impl Shape {
+    // Computed, so `of` and no From, which would read as a change of form.
     pub fn of(case: &Snapshot) -> Shape
         ensures { Shaped (execution case.now) result }
     {

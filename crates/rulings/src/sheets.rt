@@ -1,30 +1,26 @@
 // Filling the sheet: the precedence words, the two orders, and the rows.
-ghost use Rattle.std.specs.Prelude.{◌≡◌, ◌≤◌, length};
+ghost use Rattle.std.specs.Prelude.{◌≡◌};
 ghost use Rattle.relations.specs.Chains.{Acyclic};
 ghost use Rattle.relations.specs.View.{rel, size};
 ghost use Rattle.rulings.specs.Pages.{Drawn, OrderIn};
 ghost use Rattle.rulings.specs.Tables.{words_of};
 
-use crate::kinds::{Reports, SheetRow};
+use crate::kinds::{Report, Reports, SheetRow};
 use crate::pages::{Column, Page, padded};
-use crate::reporting::is_kept;
 use precedence::FirstTable;
 use relations::Relation;
 use searches::order;
+
+// The rows that a ruling fills.
+pub(crate) type Sheet = [SheetRow; 64];
 
 // The words of the table where Pb and Rcu are both kept, else zeros.
 pub(crate) fn words(reports: &Reports, table: &Option<FirstTable>) -> [u64; 64]
     ensures { result ≡ words_of reports.now table.now }
 {
-    if !is_kept(reports.pb) {
-        return [0; 64];
-    }
-    if !is_kept(reports.rcu) {
-        return [0; 64];
-    }
     match table {
-        Some(first) => first.rows,
-        None => [0; 64],
+        Some(first) if reports.pb == Report::Kept && reports.rcu == Report::Kept => first.rows,
+        _ => [0; 64],
     }
 }
 
@@ -33,25 +29,19 @@ pub(crate) fn places(relation: &Relation) -> Column
     requires { Acyclic (rel relation.now) }
     ensures { OrderIn (rel relation.now) (size relation.now) result }
 {
-    match order(relation) {
-        Some(found) => padded(&found.places, relation.events()),
-        None => unreachable(),
-    }
+    let Some(found) = order(relation) else {
+        unreachable()
+    };
+    padded(&found.places[..relation.events()])
 }
 
-// Writes the first 64 rows.
-pub(crate) fn draw(
-    sheet: &mut [SheetRow],
-    page: &Page,
-    first: &Column,
-    second: &Column,
-    words: &[u64; 64],
-)
-    requires { 64 ≤ length sheet.old }
-    ensures { Drawn page.now first.now second.now words.now sheet.old sheet.new }
+// The rows that are made of these columns.
+pub(crate) fn draw(page: &Page, first: &Column, second: &Column, words: &[u64; 64]) -> Sheet
+    ensures { Drawn page.now first.now second.now words.now result }
 {
-    for i in 0..64 {
-        sheet[i] = SheetRow {
+    let mut sheet = [SheetRow::BLANK; 64];
+    for (i, row) in sheet.iter_mut().enumerate() {
+        *row = SheetRow {
             event: page.events[i],
             mark: page.marks[i],
             first: first[i],
@@ -59,4 +49,5 @@ pub(crate) fn draw(
             word: words[i],
         };
     }
+    sheet
 }

@@ -7,3 +7,5 @@ mod sheets;
 mod sources_judged;
 #[cfg(test)]
 mod texts;
+#[cfg(test)]
+mod verdicts;

@@ -1,7 +1,8 @@
 // What stands on the sheet after a ruling. The expected rounds and tables are those of the worked examples.
 use crate::texts::{NO_RF, RCU_MP, RCU_MP_NEW, RCU_MP_OLD, SPLIT_RMW};
+use crate::verdicts::forbidden;
 use executions::{Cause, Fault, Layer};
-use rulings::{Breach, Report, Rule, Ruling, SheetRow, Verdict, judge};
+use rulings::{Report, Rule, Ruling, SheetRow, Verdict, judge};
 use std::test::Fail;
 use textsource::TextSource;
 
@@ -18,39 +19,26 @@ fn ruled(text: &[u8], sheet: &mut [SheetRow]) -> Result<Ruling, Fault> {
     judge(&TextSource { text }, sheet)
 }
 
+// A row of a round with its published mark, in a case that has no orders to show.
+fn step(event: u8, mark: u8) -> SheetRow {
+    SheetRow {
+        event,
+        mark,
+        first: 255,
+        second: 255,
+        word: 0,
+    }
+}
+
 #[test]
 fn a_round_of_rcu_with_its_marks(rt: HostRuntime) -> Result<(), Fail> {
     let mut sheet = [OTHER; 65];
     let ruling = ruled(RCU_MP, &mut sheet)?;
-    assert_eq!(rt;
-        ruling.verdict,
-        Verdict::Forbidden(Breach {
-            rule: Rule::Rcu,
-            length: 2
-        })
-    );
+    assert_eq!(rt; ruling.verdict, forbidden(Rule::Rcu, 2));
     assert_eq!(rt; ruling.reports.pb, Report::Kept);
     assert!(rt; sheet.len() == 65);
-    assert_eq!(rt;
-        sheet[0],
-        SheetRow {
-            event: 3,
-            mark: 2,
-            first: 255,
-            second: 255,
-            word: 0
-        }
-    );
-    assert_eq!(rt;
-        sheet[1],
-        SheetRow {
-            event: 6,
-            mark: 1,
-            first: 255,
-            second: 255,
-            word: 0
-        }
-    );
+    assert_eq!(rt; sheet[0], step(3, 2));
+    assert_eq!(rt; sheet[1], step(6, 1));
     assert_eq!(rt; sheet[2], SheetRow::BLANK);
     assert_eq!(rt; sheet[63], SheetRow::BLANK);
     assert_eq!(rt; sheet[64], OTHER, "rows past the 64th stay");
@@ -61,13 +49,7 @@ fn a_round_of_rcu_with_its_marks(rt: HostRuntime) -> Result<(), Fail> {
 fn a_round_of_at_from_its_read(rt: HostRuntime) -> Result<(), Fail> {
     let mut sheet = [OTHER; 64];
     let ruling = ruled(SPLIT_RMW, &mut sheet)?;
-    assert_eq!(rt;
-        ruling.verdict,
-        Verdict::Forbidden(Breach {
-            rule: Rule::At,
-            length: 3
-        })
-    );
+    assert_eq!(rt; ruling.verdict, forbidden(Rule::At, 3));
     assert!(rt; sheet.len() == 64);
     assert_eq!(rt; sheet[0].event, 2);
     assert_eq!(rt; sheet[1].event, 1);
@@ -93,37 +75,25 @@ fn the_word_of_a_section(rt: HostRuntime) -> Result<(), Fail> {
 }
 
 #[test]
-fn a_short_sheet_is_refused_first(rt: HostRuntime) -> Result<(), Fail> {
+fn a_short_sheet_is_refused_first(rt: HostRuntime) {
     let mut sheet = [OTHER; 63];
     let refused = Fault {
         cause: Cause::TooShort,
         layer: Layer::Check,
         place: 0,
     };
-    match ruled(NO_RF, &mut sheet) {
-        Ok(_) => Err(Fail::new("ruled on a short sheet")),
-        Err(fault) => {
-            assert_eq!(rt; fault, refused);
-            Ok(())
-        },
-    }
+    assert_eq!(rt; ruled(NO_RF, &mut sheet), Err(refused));
 }
 
 #[test]
-fn a_case_that_is_not_well_formed_leaves_the_sheet(rt: HostRuntime) -> Result<(), Fail> {
+fn a_case_that_is_not_well_formed_leaves_the_sheet(rt: HostRuntime) {
     let mut sheet = [OTHER; 64];
     let refused = Fault {
         cause: Cause::ReadWithoutRf,
         layer: Layer::Check,
         place: 1,
     };
-    match ruled(NO_RF, &mut sheet) {
-        Ok(_) => Err(Fail::new("ruled on a read without rf")),
-        Err(fault) => {
-            assert_eq!(rt; fault, refused);
-            assert!(rt; sheet.len() == 64);
-            assert_eq!(rt; sheet[0], OTHER);
-            Ok(())
-        }
-    }
+    assert_eq!(rt; ruled(NO_RF, &mut sheet), Err(refused));
+    assert!(rt; sheet.len() == 64);
+    assert_eq!(rt; sheet[0], OTHER);
 }

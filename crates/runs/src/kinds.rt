@@ -3,7 +3,8 @@ use executions::{Event, Fault};
 use rulings::{Ruling, SheetRow};
 use tables::{OpenCase, SealedCase};
 
-// A call, with its arguments but for the tables. Of its sheet a judge gives the number of rows.
+// A call, with its arguments but for the tables. Of its sheet a judge gives the number of rows. A tie names its relation by a number, since
+// a caller may name one that there is not.
 #[derive(Clone, Copy)]
 pub enum Call {
     Enter(Event),

@@ -1,7 +1,9 @@
 // Runs of the bench: lists of calls on one case and its two tables.
 #![tactic(auto)]
 
+mod answers;
 pub mod kinds;
+mod lent;
 pub mod running;
 mod steps;
 

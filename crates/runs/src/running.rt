@@ -16,8 +16,10 @@ pub fn run(
     ensures { RunOn calls.now events.old ties.old answers.old events.new ties.new answers.new result }
 {
     let mut state = State::Open(OpenCase::open(events, ties)?);
-    for i in 0..calls.len().min(answers.len()) {
-        let (next, answer) = step(state, events, ties, calls[i]);
+    // answers by number: of what a zip over iter_mut writes, nothing is known after the loop
+    let room = calls.len().min(answers.len());
+    for (i, call) in calls[..room].iter().enumerate() {
+        let (next, answer) = step(state, events, ties, *call);
         state = next;
         answers[i] = answer;
     }

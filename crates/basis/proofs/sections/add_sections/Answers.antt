@@ -1,4 +1,4 @@
-use Rattle.std.proofs.Common.{sym, refl, ap, ◌∙◌, arith}
+use Rattle.std.proofs.Common.{sym, ap, ◌∙◌, arith, rules}
 use Rattle.relations.specs.View.{rel, size}
 use Rattle.sources.specs.Snapshot.{execution}
 use Rattle.sources.proofs.Copying.{held_few}
@@ -8,9 +8,7 @@ use Rattle.basis.proofs.sections.add_sections.Goals as goal
 use Rattle.basis.proofs.sections.add_sections.Goals.{then-is_last_unlock, else-is_last_unlock}
 
 pub loop-i-init : goal.loop-i-init
-loop-i-init c =
-    let x = execution c.args.case.now in
-    (depth_none x c.args.thread, lock_none x c.args.thread, walk_none x c.args.thread _, refl)
+loop-i-init c = search (rules, depth_none, lock_none, walk_none)
 
 pub loop-i-preserved : goal.loop-i-preserved
 loop-i-preserved c =
@@ -41,7 +39,4 @@ loop-i-preserved c =
     )
 
 pub returns : goal.returns
-returns c = record {
-  pairs = walk_all (execution c.args.case.now) c.args.thread c.loop-i.i _ _ (omega (arith, c.count-i-end.ensures)) c.loop-i.invariant.2;
-  events = c.loop-i.invariant.3;
-}
+returns c = search (rules, walk_all)

@@ -1,22 +1,16 @@
-use Rattle.std.proofs.Common.{◌∙◌, arith}
+use Rattle.std.proofs.Common.{arith, rules}
 use Rattle.sources.specs.Snapshot.{execution}
 use Rattle.sources.proofs.Copying.{held_few}
 use Rattle.basis.proofs.Closing.{crit_in_words, threads_none, threads_more, threads_all}
 use Rattle.basis.proofs.sections.sections.Goals as goal
 
-pub loop-k-init : goal.loop-k-init
-loop-k-init c = (
-  threads_none (execution c.args.case.now) _ c.empty-found.ensures.pairs,
-  omega (arith, c.empty-found.ensures.events, c.count.ensures, held_few c.args.case.now),
-)
+pub loop-thread-init : goal.loop-thread-init
+loop-thread-init c = search (rules, threads_none, held_few)
 
-pub loop-k-preserved : goal.loop-k-preserved
-loop-k-preserved c = (
-  threads_more (execution c.args.case.now) c.loop-k.k _ _ c.loop-k.invariant.0 c.add_sections.ensures.pairs,
-  c.add_sections.ensures.events ∙ c.loop-k.invariant.1,
-)
+pub loop-thread-preserved : goal.loop-thread-preserved
+loop-thread-preserved c = search (rules, threads_more)
 
 pub returns : goal.returns
 returns c =
-    let all = threads_all (execution c.args.case.now) c.loop-k.k _ (omega arith) c.loop-k.invariant.0 in
-    record { pairs = all; events = c.loop-k.invariant.1; in_words = crit_in_words (execution c.args.case.now) _ all }
+    let all = threads_all (execution c.args.case.now) c.loop-thread.thread _ (omega arith) c.loop-thread.invariant.found_so_far in
+    record { pairs = all; events = c.loop-thread.invariant.all_events; in_words = crit_in_words (execution c.args.case.now) _ all }

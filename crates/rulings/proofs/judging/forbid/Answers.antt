@@ -3,4 +3,4 @@ use Rattle.rulings.proofs.Assembling.{forbidden}
 use Rattle.rulings.proofs.judging.forbid.Goals as goal
 
 pub returns : goal.returns
-returns c = forbidden (held c.args.model.now) c.args.rule c.round_of-page.result c.args.words.now c.args.sheet.now _ c.round_of-page.ensures c.draw.ensures
+returns c = forbidden (held c.args.question.now.model.now) c.args.rule c.round_of-page.result c.args.words.now _ c.round_of-page.ensures c.draw.ensures

@@ -12,5 +12,5 @@ returns c =
       events = take cycle.steps cycle.events;
       marks = take cycle.steps (replicate 64 0);
       holds = record { shortest = c.in-Some.ensures.found; unmarked = take-replicate cycle.steps 64 0 cycle.few ∙ ap (λ (n : ℕ). replicate n 0) (sym long) };
-      paged = record { events_are = c.padded.ensures; marks_are = c.padded-in-Some.ensures; steps_are = sym long };
+      paged = record { events_are = c.padded.ensures; marks_are = c.padded-2.ensures; steps_are = sym long };
     }

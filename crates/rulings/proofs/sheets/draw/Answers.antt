@@ -1,13 +1,15 @@
-use Rattle.std.proofs.Common.{get_or, ◌∙◌, arith, rules}
-use Rattle.std.proofs.lemmas.List.{get_or_default, drop-set-lt}
+use Rattle.std.proofs.Common.{get_or, arith, rules, length-set}
+use Rattle.std.proofs.lemmas.List.{get_or_default}
 use Rattle.rulings.proofs.Drawing.{drawn_more}
 use Rattle.rulings.proofs.sheets.draw.Goals as goal
 
 pub loop-i-preserved : goal.loop-i-preserved
 loop-i-preserved c =
     let i = c.loop-i.i in
-    let page = c.args.page.now in (
-      drawn_more c.loop-i.sheet
+    let page = c.args.page.now in
+    record {
+      all = simp length-set c.loop-i.invariant.all;
+      drawn = drawn_more c.loop-i.row-items
           (λ k. record { event = get_or page.events k 255; mark = get_or page.marks k 255; first = get_or c.args.first.now k 255; second = get_or c.args.second.now k 255; word = get_or c.args.words.now k 0 })
           i _ (omega arith)
           (λ j. record {
@@ -17,6 +19,5 @@ loop-i-preserved c =
             second = get_or_default c.args.second.now i 0 255 (search rules) j;
             word = get_or c.args.words.now i 0;
           })
-          c.loop-i.invariant.0,
-      drop-set-lt 64 c.loop-i.sheet i _ (omega arith) ∙ c.loop-i.invariant.1,
-    )
+          c.loop-i.invariant.drawn;
+    }

@@ -1,5 +1,0 @@
-use Rattle.basis.proofs.Grouping.{grouped_none}
-use Rattle.basis.proofs.groups.grouped.Goals as goal
-
-pub loop-i-init : goal.loop-i-init
-loop-i-init c = (grouped_none _, grouped_none _, grouped_none _)
