@@ -7,7 +7,7 @@
 
 mod cases;
 
-use anyhow::anyhow;
+use anyhow::Context;
 use cases::{CROWD, RCU_MP, RCU_MP_NEW};
 use intake::{Tables, read_sealed};
 use rows::count;
@@ -19,8 +19,7 @@ const RUNS: u32 = 2000;
 
 fn main(rt: HostRuntime) -> anyhow::Result<()> {
     let mut words = env::args(&rt)?;
-    let _program = words.next();
-    let Some(word) = words.next() else {
+    let Some(word) = words.nth(1) else {
         tell(&rt, "RCU-MP", RCU_MP)?;
         tell(&rt, "RCU-MP, both reads new", RCU_MP_NEW)?;
         return tell(&rt, "64 events", CROWD);
@@ -30,10 +29,7 @@ fn main(rt: HostRuntime) -> anyhow::Result<()> {
         time(&rt, "RCU-MP, both reads new", RCU_MP_NEW)?;
         return time(&rt, "64 events", CROWD);
     }
-    let Some(number) = words.next() else {
-        return Ok(());
-    };
-    let Some(runs) = words.next() else {
+    let (Some(number), Some(runs)) = (words.next(), words.next()) else {
         return Ok(());
     };
     let sum = judged(numbered(number.as_str()), runs.as_str().parse::<u32>()?);
@@ -53,30 +49,25 @@ fn numbered(number: &str) -> &'static [u8] {
 fn tell(rt: &HostRuntime, name: &str, text: &[u8]) -> anyhow::Result<()> {
     let mut tables = Tables::BLANK;
     let mut sheet = [SheetRow::BLANK; 64];
-    let Ok(case) = read_sealed(text, &mut tables) else {
-        return Err(anyhow!("not sealed"));
-    };
-    let Ok(source) = case.source(&tables.events, &tables.ties) else {
-        return Err(anyhow!("short tables"));
-    };
-    let Ok(ruling) = judge(&source, &mut sheet) else {
-        return Err(anyhow!("not judged"));
-    };
+    let case = read_sealed(text, &mut tables).ok().context("not sealed")?;
+    let source = case
+        .source(&tables.events, &tables.ties)
+        .ok()
+        .context("short tables")?;
+    let ruling = judge(&source, &mut sheet).ok().context("not judged")?;
     let pairs = section_first(&sheet);
     match ruling.verdict {
         Verdict::Allowed => println!(rt; "{name}: allowed, {pairs} pairs have the section first")?,
-        Verdict::Forbidden(breach) => {
-            let (rule, length) = (breach.rule.name(), breach.length);
-            println!(rt; "{name}: forbidden {rule}, round of {length}")?;
-        }
+        Verdict::Forbidden(breach) => println!(rt; "{name}: forbidden {breach}")?,
     }
     Ok(())
 }
 
 fn section_first(sheet: &[SheetRow; 64]) -> usize {
+    // The bound of a `sum` is not proved here, so the rows are added up in a loop.
     let mut pairs = 0;
-    for i in 0..64 {
-        pairs += count(sheet[i].word);
+    for row in sheet {
+        pairs += count(row.word);
     }
     pairs
 }
@@ -103,15 +94,9 @@ fn judged(text: &[u8], runs: u32) -> u32 {
     let mut forbidden = 0u32;
     for _ in 0..runs {
         if let Ok(ruling) = judge(&source, &mut sheet) {
-            forbidden = forbidden.saturating_add(one_if(ruling.verdict));
+            let is_forbidden = matches!(ruling.verdict, Verdict::Forbidden(_));
+            forbidden = forbidden.saturating_add(u32::from(is_forbidden));
         }
     }
     forbidden
-}
-
-fn one_if(verdict: Verdict) -> u32 {
-    match verdict {
-        Verdict::Forbidden(_) => 1,
-        Verdict::Allowed => 0,
-    }
 }

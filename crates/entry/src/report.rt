@@ -1,23 +1,90 @@
 // What was asked and answered, in words.
 use executions::{Event, Fault, Relation, Sort};
-use std::io;
+use std::{fmt, io};
 use tables::OpenCase;
 
-pub(crate) fn refused(rt: &impl Print, fault: Fault) -> io::Result<()> {
-    let number = fault.number();
-    let layer = fault.layer_number();
-    let place = fault.place;
-    println!(rt; ": refused, number {number}, layer {layer}, place {place}")
+// An event, by its sort's name, or by a number that names none.
+#[derive(Clone, Copy)]
+pub(crate) struct Named(pub(crate) Event);
+
+impl fmt::Display for Named {
+    fn fmt<W: fmt::Write>(&self, f: &mut fmt::Formatter<W>) -> fmt::Result {
+        let Event {
+            thread,
+            sort,
+            place,
+        } = self.0;
+        match Sort::try_from(sort) {
+            Ok(known) => write!(f, "{known}, thread {thread}, place {place}"),
+            Err(_) => write!(f, "sort {sort}, thread {thread}, place {place}"),
+        }
+    }
 }
 
-// An event in words.
-fn named(rt: &impl Print, event: Event) -> io::Result<()> {
-    let thread = event.thread;
-    let place = event.place;
-    match Sort::of(event.sort) {
-        Some(sort) => print!(rt; "{}, thread {thread}, place {place}", sort.name()),
-        None => print!(rt; "sort {}, thread {thread}, place {place}", event.sort),
+// A tie from one event to another, by the numbers that a call is handed: a relation too may be a number that names none.
+#[derive(Clone, Copy)]
+pub(crate) struct Tie {
+    pub(crate) relation: u32,
+    pub(crate) first: u32,
+    pub(crate) second: u32,
+}
+
+impl Tie {
+    pub(crate) fn of(relation: Relation, first: u32, second: u32) -> Tie {
+        Tie {
+            relation: relation.number() as u32,
+            first,
+            second,
+        }
     }
+}
+
+impl fmt::Display for Tie {
+    fn fmt<W: fmt::Write>(&self, f: &mut fmt::Formatter<W>) -> fmt::Result {
+        let Tie {
+            relation,
+            first,
+            second,
+        } = *self;
+        match Relation::try_from(relation) {
+            Ok(known) => write!(f, "{known} {first} {second}"),
+            Err(_) => write!(f, "relation {relation} {first} {second}"),
+        }
+    }
+}
+
+// The number of an event that a case took.
+#[derive(Clone, Copy)]
+struct EventNumber(usize);
+
+impl fmt::Display for EventNumber {
+    fn fmt<W: fmt::Write>(&self, f: &mut fmt::Formatter<W>) -> fmt::Result {
+        write!(f, "event {}", self.0)
+    }
+}
+
+// What a call was asked, and what it answered.
+fn tell<Q: fmt::Display + Drop, A: fmt::Display + Drop>(
+    rt: &impl Print,
+    asked: Q,
+    answer: Result<A, Fault>,
+) -> io::Result<()> {
+    match answer {
+        Ok(done) => println!(rt; "{asked}: {done}"),
+        Err(fault) => println!(rt; "{asked}: refused, {fault}"),
+    }
+}
+
+pub(crate) fn opened(
+    rt: &impl Print,
+    tables: &str,
+    answer: Result<OpenCase, Fault>,
+) -> io::Result<()> {
+    tell(
+        rt,
+        format_args!("open {tables}"),
+        answer.map(|_| "a blank case"),
+    )
 }
 
 pub(crate) fn entered(
@@ -25,73 +92,15 @@ pub(crate) fn entered(
     event: Event,
     answer: Result<usize, Fault>,
 ) -> io::Result<()> {
-    print!(rt; "enter ")?;
-    named(rt, event)?;
-    match answer {
-        Ok(number) => println!(rt; ": event {number}"),
-        Err(fault) => refused(rt, fault),
-    }
+    let asked = Named(event);
+    tell(rt, format_args!("enter {asked}"), answer.map(EventNumber))
 }
 
 pub(crate) fn tied(
     rt: &impl Print,
     call: &str,
-    relation: u32,
-    first: u32,
-    second: u32,
+    asked: Tie,
     answer: Result<(), Fault>,
 ) -> io::Result<()> {
-    match Relation::of(relation) {
-        Some(known) => print!(rt; "{call} {} {first} {second}", known.name())?,
-        None => print!(rt; "{call} relation {relation} {first} {second}")?,
-    }
-    match answer {
-        Ok(_) => println!(rt; ": done"),
-        Err(fault) => refused(rt, fault),
-    }
-}
-
-pub(crate) fn opened_short(
-    rt: &impl Print,
-    tables: &str,
-    answer: Result<OpenCase, Fault>,
-) -> io::Result<()> {
-    print!(rt; "open {tables}")?;
-    match answer {
-        Ok(_) => println!(rt; ": a blank case"),
-        Err(fault) => refused(rt, fault),
-    }
-}
-
-// The events and ties that the tables hold.
-pub(crate) fn held(
-    rt: &impl Print,
-    case: &OpenCase,
-    events: &[Event],
-    ties: &[u64],
-) -> io::Result<()> {
-    let count = case.count();
-    for (i, event) in events.iter().take(count).enumerate() {
-        print!(rt; "event {i}: ")?;
-        named(rt, *event)?;
-        rt.println("")?;
-    }
-    for (i, word) in ties.iter().enumerate() {
-        targets(rt, i, *word)?;
-    }
-    Ok(())
-}
-
-// The ties in one word of the tie table.
-fn targets(rt: &impl Print, at: usize, word: u64) -> io::Result<()> {
-    let first = at % 64;
-    let Some(relation) = Relation::of((at / 64 % 6) as u32 + 1) else {
-        return Ok(());
-    };
-    for second in 0..64 {
-        if rows::has(word, second) {
-            println!(rt; "{} from {first} to {second}", relation.name())?;
-        }
-    }
-    Ok(())
+    tell(rt, format_args!("{call} {asked}"), answer.map(|_| "done"))
 }

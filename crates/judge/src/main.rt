@@ -2,22 +2,22 @@
 #![tactic(auto)]
 
 use casewriter::front;
-use intake::fill;
+use help::HELP;
+use intake::{ROOM, fill};
 use rulings::SheetRow;
 use std::{env, io};
 use telling::{decline, judge_text, tell};
 
 mod help;
-
-// How much of the input is read. The largest text of a sealed case is shorter.
-const ROOM: usize = 65536;
+#[cfg(test)]
+mod tests;
 
 fn main(rt: HostRuntime) -> anyhow::Result<()> {
     if asks_help(&rt)? {
-        help::show(&rt)?;
-        return Ok(());
+        rt.println(HELP)?;
+    } else {
+        judge(&rt)?;
     }
-    judge(&rt)?;
     Ok(())
 }
 
@@ -32,11 +32,10 @@ fn judge(rt: &HostRuntime) -> io::Result<()> {
 }
 
 // Whether the first argument is `--help`.
-fn asks_help(rt: &HostRuntime) -> anyhow::Result<bool> {
-    let mut arguments = env::args(rt)?;
-    let _program = arguments.next();
-    match arguments.next() {
-        Some(word) => Ok(word.as_str() == "--help"),
-        None => Ok(false),
-    }
+fn asks_help(rt: &HostRuntime) -> io::Result<bool> {
+    Ok(
+        env::args(rt)?
+            .nth(1)
+            .is_some_and(|word| word.as_str() == "--help"),
+    )
 }

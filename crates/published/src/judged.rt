@@ -1,6 +1,6 @@
 // Ruling on a text, and comparing the ruling with what is published.
 ghost use Rattle.std.specs.Prelude.{◌≡◌, Decides};
-ghost use Rattle.published.specs.Outcomes.{outcome_of as table_word, Agrees, TextRuling};
+ghost use Rattle.published.specs.Outcomes.{outcome_of, Agrees, TextRuling};
 
 use crate::kinds::Outcome;
 use rulings::kinds::{Ruling, SheetRow, Verdict};
@@ -11,19 +11,19 @@ pub(crate) fn rule_on_text(text: &[u8]) -> Option<Ruling>
     ensures { TextRuling text.now result }
 {
     let mut sheet = [SheetRow::BLANK; 64];
-    match judge_text(text, &mut sheet) {
-        Ok(judgment) => Some(judgment.ruling),
-        Err(_) => None,
-    }
+    let judgment = judge_text(text, &mut sheet).ok()?;
+    Some(judgment.ruling)
 }
 
 // A verdict in the words of the table.
-pub(crate) fn outcome_of(verdict: Verdict) -> Outcome
-    ensures { result ≡ table_word verdict }
-{
-    match verdict {
-        Verdict::Allowed => Outcome::Allow,
-        Verdict::Forbidden(_) => Outcome::Forbid,
+impl From<Verdict> for Outcome {
+    ghost from_gives = { λ verdict outcome. outcome ≡ outcome_of verdict };
+
+    fn from(verdict: Verdict) -> Outcome {
+        match verdict {
+            Verdict::Allowed => Outcome::Allow,
+            Verdict::Forbidden(_) => Outcome::Forbid,
+        }
     }
 }
 
@@ -31,8 +31,5 @@ pub(crate) fn outcome_of(verdict: Verdict) -> Outcome
 pub(crate) fn agrees(outcome: Outcome, ruling: Option<Ruling>) -> bool
     ensures { Decides result (Agrees outcome ruling) }
 {
-    match ruling {
-        Some(ruling) => outcome_of(ruling.verdict) == outcome,
-        None => false,
-    }
+    ruling.is_some_and(|ruling| Outcome::from(ruling.verdict) == outcome)
 }

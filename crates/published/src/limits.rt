@@ -30,20 +30,12 @@ fn limit(name: &'static str, before: usize, event: Event, answer: Result<usize, 
 }
 
 fn read_at(thread: u8, place: u8) -> Event {
-    Event {
-        thread,
-        sort: Sort::ReadOnce.number(),
-        place,
-    }
+    Event::of(thread, Sort::ReadOnce, place)
 }
 
 // How entering an event declines.
 fn refused(cause: Cause, place: u32) -> Result<usize, Fault> {
-    Err(Fault {
-        cause,
-        layer: Layer::Entry,
-        place,
-    })
+    Err(Layer::Entry.fault(cause, place))
 }
 
 // Enters an event behind so many others.
@@ -51,20 +43,8 @@ pub(crate) fn enter_after(before: usize, event: Event) -> Result<usize, Fault> {
     let mut events = [Event::UNUSED; 64];
     let mut ties = [0u64; 384];
     let mut case = OpenCase::open(&mut events, &mut ties)?;
-    enter_again(&mut case, &mut events, &ties, read_at(1, 1), before)?;
-    case.enter(&mut events, &ties, event)
-}
-
-// Enters the same event so many times.
-fn enter_again(
-    case: &mut OpenCase,
-    events: &mut [Event],
-    ties: &[u64],
-    event: Event,
-    times: usize,
-) -> Result<(), Fault> {
-    for _ in 0..times {
-        let _ = case.enter(events, ties, event)?;
+    for _ in 0..before {
+        let _ = case.enter(&mut events, &ties, read_at(1, 1))?;
     }
-    Ok(())
+    case.enter(&mut events, &ties, event)
 }

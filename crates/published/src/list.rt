@@ -1,111 +1,32 @@
 // The executions, in the order of the published table and then the further ones.
-use crate::kinds::{Outcome, Published};
+use crate::kinds::Outcome::{Allow, Forbid};
+use crate::kinds::Published;
 use crate::texts;
 
 // The fifteen executions of the table of the paper's experiments, with its column for the model.
 pub(crate) const TABLE: [Published; 15] = [
-    Published {
-        name: "LB",
-        outcome: Outcome::Allow,
-        text: texts::LB,
-    },
-    Published {
-        name: "LB+ctrl+mb",
-        outcome: Outcome::Forbid,
-        text: texts::LB_CTRL_MB,
-    },
-    Published {
-        name: "WRC",
-        outcome: Outcome::Allow,
-        text: texts::WRC,
-    },
-    Published {
-        name: "WRC+wmb+acq",
-        outcome: Outcome::Allow,
-        text: texts::WRC_WMB_ACQ,
-    },
-    Published {
-        name: "WRC+po-rel+rmb",
-        outcome: Outcome::Forbid,
-        text: texts::WRC_PO_REL_RMB,
-    },
-    Published {
-        name: "SB",
-        outcome: Outcome::Allow,
-        text: texts::SB,
-    },
-    Published {
-        name: "SB+mbs",
-        outcome: Outcome::Forbid,
-        text: texts::SB_MBS,
-    },
-    Published {
-        name: "MP",
-        outcome: Outcome::Allow,
-        text: texts::MP,
-    },
-    Published {
-        name: "MP+wmb+rmb",
-        outcome: Outcome::Forbid,
-        text: texts::MP_WMB_RMB,
-    },
-    Published {
-        name: "PeterZ-No-Synchro",
-        outcome: Outcome::Allow,
-        text: texts::PETERZ_NO_SYNCHRO,
-    },
-    Published {
-        name: "PeterZ",
-        outcome: Outcome::Forbid,
-        text: texts::PETERZ,
-    },
-    Published {
-        name: "RCU-deferred-free",
-        outcome: Outcome::Forbid,
-        text: texts::RCU_DEFERRED_FREE,
-    },
-    Published {
-        name: "RCU-MP",
-        outcome: Outcome::Forbid,
-        text: texts::RCU_MP,
-    },
-    Published {
-        name: "RWC",
-        outcome: Outcome::Allow,
-        text: texts::RWC,
-    },
-    Published {
-        name: "RWC+mbs",
-        outcome: Outcome::Forbid,
-        text: texts::RWC_MBS,
-    },
+    ("LB", Allow, texts::LB),
+    ("LB+ctrl+mb", Forbid, texts::LB_CTRL_MB),
+    ("WRC", Allow, texts::WRC),
+    ("WRC+wmb+acq", Allow, texts::WRC_WMB_ACQ),
+    ("WRC+po-rel+rmb", Forbid, texts::WRC_PO_REL_RMB),
+    ("SB", Allow, texts::SB),
+    ("SB+mbs", Forbid, texts::SB_MBS),
+    ("MP", Allow, texts::MP),
+    ("MP+wmb+rmb", Forbid, texts::MP_WMB_RMB),
+    ("PeterZ-No-Synchro", Allow, texts::PETERZ_NO_SYNCHRO),
+    ("PeterZ", Forbid, texts::PETERZ),
+    ("RCU-deferred-free", Forbid, texts::RCU_DEFERRED_FREE),
+    ("RCU-MP", Forbid, texts::RCU_MP),
+    ("RWC", Allow, texts::RWC),
+    ("RWC+mbs", Forbid, texts::RWC_MBS),
 ];
 
 // Executions beside the table: their verdicts follow from the definitions by hand.
 pub(crate) const FURTHER: [Published; 5] = [
-    Published {
-        name: "blank",
-        outcome: Outcome::Allow,
-        text: texts::BLANK,
-    },
-    Published {
-        name: "own-later-write",
-        outcome: Outcome::Forbid,
-        text: texts::OWN_LATER_WRITE,
-    },
-    Published {
-        name: "split-rmw",
-        outcome: Outcome::Forbid,
-        text: texts::SPLIT_RMW,
-    },
-    Published {
-        name: "RCU-MP-new",
-        outcome: Outcome::Allow,
-        text: texts::RCU_MP_NEW,
-    },
-    Published {
-        name: "RCU-MP-old",
-        outcome: Outcome::Allow,
-        text: texts::RCU_MP_OLD,
-    },
+    ("blank", Allow, texts::BLANK),
+    ("own-later-write", Forbid, texts::OWN_LATER_WRITE),
+    ("split-rmw", Forbid, texts::SPLIT_RMW),
+    ("RCU-MP-new", Allow, texts::RCU_MP_NEW),
+    ("RCU-MP-old", Allow, texts::RCU_MP_OLD),
 ];

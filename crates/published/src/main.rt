@@ -9,24 +9,35 @@ mod list;
 mod texts;
 mod words;
 
-use executions::Fault;
 use judged::{agrees, rule_on_text};
 use kinds::{Limit, Published};
 use limits::{enter_after, limits};
 use list::{FURTHER, TABLE};
-use rulings::kinds::{Ruling, Verdict};
-use std::io;
-use words::outcome_word;
+use std::{fmt, io};
+use words::{Entry, Ruled};
 
 // How many lines agree, and how many there are.
-#[derive(Clone, Copy)]
+#[derive(Clone, Copy, Default)]
 struct Tally {
     agree: u32,
     lines: u32,
 }
 
+impl Tally {
+    fn count(&mut self, agrees: bool) {
+        self.agree = self.agree.saturating_add(u32::from(agrees));
+        self.lines = self.lines.saturating_add(1);
+    }
+}
+
+impl fmt::Display for Tally {
+    fn fmt<W: fmt::Write>(&self, f: &mut fmt::Formatter<W>) -> fmt::Result {
+        write!(f, "{} of {} agree", self.agree, self.lines)
+    }
+}
+
 fn main(rt: HostRuntime) -> io::Result<()> {
-    let mut tally = Tally { agree: 0, lines: 0 };
+    let mut tally = Tally::default();
     println!(rt; "The published table")?;
     compare_all(&rt, &TABLE, &mut tally)?;
     println!(rt; "Further executions")?;
@@ -35,58 +46,21 @@ fn main(rt: HostRuntime) -> io::Result<()> {
     for limit in limits() {
         compare_limit(&rt, limit, &mut tally)?;
     }
-    let (agree, lines) = (tally.agree, tally.lines);
-    println!(rt; "{agree} of {lines} agree")
+    rt.println(tally)
 }
 
 fn compare_all(rt: &impl Print, list: &[Published], tally: &mut Tally) -> io::Result<()> {
-    for published in list {
-        let ruling = rule_on_text(published.text);
-        count(tally, agrees(published.outcome, ruling));
-        let (name, outcome) = (published.name, outcome_word(published.outcome));
-        print!(rt; "{name:<18} {outcome:<7} ")?;
-        tell_ruling(rt, ruling)?;
+    for (name, outcome, text) in list {
+        let ruling = rule_on_text(text);
+        tally.count(agrees(*outcome, ruling));
+        println!(rt; "{name:<18} {outcome:<7} {}", Ruled(ruling))?;
     }
     Ok(())
 }
 
-fn count(tally: &mut Tally, agree: bool) {
-    tally.lines = tally.lines.saturating_add(1);
-    if agree {
-        tally.agree = tally.agree.saturating_add(1);
-    }
-}
-
-fn tell_ruling(rt: &impl Print, ruling: Option<Ruling>) -> io::Result<()> {
-    let Some(ruling) = ruling else {
-        return rt.println("refused");
-    };
-    match ruling.verdict {
-        Verdict::Allowed => rt.println("allowed"),
-        Verdict::Forbidden(breach) => {
-            let (rule, length) = (breach.rule.name(), breach.length);
-            println!(rt; "forbidden {rule} {length}")
-        }
-    }
-}
-
 fn compare_limit(rt: &impl Print, limit: Limit, tally: &mut Tally) -> io::Result<()> {
     let answer = enter_after(limit.before, limit.event);
-    count(tally, answer == limit.answer);
-    let name = limit.name;
-    print!(rt; "{name:<18} expected ")?;
-    tell_entry(rt, limit.answer)?;
-    print!(rt; ", got ")?;
-    tell_entry(rt, answer)?;
-    rt.println("")
-}
-
-fn tell_entry(rt: &impl Print, answer: Result<usize, Fault>) -> io::Result<()> {
-    match answer {
-        Ok(number) => print!(rt; "event {number}"),
-        Err(fault) => {
-            let (number, place) = (fault.number(), fault.place);
-            print!(rt; "refused {number} place {place}")
-        }
-    }
+    tally.count(answer == limit.answer);
+    let (name, expected, got) = (limit.name, Entry(limit.answer), Entry(answer));
+    println!(rt; "{name:<18} expected {expected}, got {got}")
 }

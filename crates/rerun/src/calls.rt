@@ -1,79 +1,41 @@
 // The calls of the run.
-use executions::Event;
+use executions::{Event, Relation, Sort};
 use runs::Call;
 
 // How many there are.
 pub(crate) const COUNT: usize = 25;
 
-// Sorts: 1 read once, 3 write once, 9 rcu-lock, 10 rcu-unlock, 11 sync-rcu. Relations: 1 rf, 2 co.
-pub(crate) const CALLS: [Call; 25] = [
-    Call::Enter(Event {
-        thread: 0,
-        sort: 3,
-        place: 1,
-    }),
-    Call::Enter(Event {
-        thread: 0,
-        sort: 3,
-        place: 2,
-    }),
-    Call::Enter(Event {
-        thread: 1,
-        sort: 9,
-        place: 0,
-    }),
-    Call::Enter(Event {
-        thread: 1,
-        sort: 1,
-        place: 1,
-    }),
-    Call::Enter(Event {
-        thread: 1,
-        sort: 1,
-        place: 2,
-    }),
-    Call::Enter(Event {
-        thread: 1,
-        sort: 10,
-        place: 0,
-    }),
-    Call::Enter(Event {
-        thread: 2,
-        sort: 3,
-        place: 2,
-    }),
-    Call::Enter(Event {
-        thread: 2,
-        sort: 11,
-        place: 0,
-    }),
-    Call::Enter(Event {
-        thread: 9,
-        sort: 3,
-        place: 1,
-    }),
-    Call::Enter(Event {
-        thread: 2,
-        sort: 3,
-        place: 1,
-    }),
-    Call::Tie(1, 8, 3),
-    Call::Tie(1, 1, 4),
-    Call::Tie(2, 0, 8),
-    Call::Judge(64),
-    Call::Seal,
-    Call::Tie(2, 1, 6),
-    Call::Seal,
-    Call::Enter(Event {
-        thread: 1,
-        sort: 7,
-        place: 0,
-    }),
-    Call::Judge(63),
-    Call::Judge(64),
-    Call::Reopen,
-    Call::Untie(1, 1, 4),
-    Call::Tie(1, 6, 4),
-    Call::Seal,
-    Call::Judge(64),
-];
+pub(crate) fn calls() -> [Call; COUNT] {
+    let (rf, co) = (Relation::Rf.number() as u32, Relation::Co.number() as u32);
+    [
+        enter(0, Sort::WriteOnce, 1),
+        enter(0, Sort::WriteOnce, 2),
+        enter(1, Sort::RcuLock, 0),
+        enter(1, Sort::ReadOnce, 1),
+        enter(1, Sort::ReadOnce, 2),
+        enter(1, Sort::RcuUnlock, 0),
+        enter(2, Sort::WriteOnce, 2),
+        enter(2, Sort::SyncRcu, 0),
+        enter(9, Sort::WriteOnce, 1),
+        enter(2, Sort::WriteOnce, 1),
+        Call::Tie(rf, 8, 3),
+        Call::Tie(rf, 1, 4),
+        Call::Tie(co, 0, 8),
+        Call::Judge(64),
+        Call::Seal,
+        Call::Tie(co, 1, 6),
+        Call::Seal,
+        enter(1, Sort::Mb, 0),
+        Call::Judge(63),
+        Call::Judge(64),
+        Call::Reopen,
+        Call::Untie(rf, 1, 4),
+        Call::Tie(rf, 6, 4),
+        Call::Seal,
+        Call::Judge(64),
+    ]
+}
+
+fn enter(thread: u8, sort: Sort, place: u8) -> Call {
+    Call::Enter(Event::of(thread, sort, place))
+}
