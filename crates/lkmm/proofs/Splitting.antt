@@ -1,10 +1,9 @@
 -- Read-modify-writes that are split, found in the rows of the code.
 use Rattle.std.proofs.lemmas.Bool.Decides.{nat_tests}
-use Rattle.std.proofs.Common.{◌≡◌, ℕ, ◌<◌, ◌≤◌, true, false, ◌&&◌, Some, None, Option, sym, ap, ◌∙◌, arith, MatchOption, ◌+◌, ◌-◌, not, is_some, option_map, unwrap_or, IfSome, IsSomeAnd, IsTrue, Decides, refl, subst, ap₂, ⊎_elim}
+use Rattle.std.proofs.Common.{◌≡◌, ℕ, ◌<◌, ◌≤◌, true, false, ◌&&◌, Some, None, Option, sym, ap, ◌∙◌, arith, MatchOption, ◌+◌, ◌-◌, not, is_some, option_map, unwrap_or, IfSome, IsSomeAnd, IsTrue, Decides, refl, subst, ⊎_elim}
 use lib.Bits.{bit_and}
-use Rattle.std.proofs.lemmas.Bool.{both_ways, and_parts, and_left, cases_lt, false≢true}
-use Rattle.rows.specs.Row.{Set, bit, Lowest, any}
-use mathlib.Core.Path.{fun_ext}
+use Rattle.std.proofs.lemmas.Bool.{both_ways, and_left, cases_lt, false≢true}
+use Rattle.rows.specs.Row.{Set, bit, Lowest}
 use denote.Param.Members.{Mut, Called}
 use Rattle.std.specs.declared.ops.Range.{Range}
 use Rattle.std.specs.Iterator.Runs.{SomeRun, AllItemsGive, IsFirstToGive, CallKeepsClosure}

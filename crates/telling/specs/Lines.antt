@@ -9,7 +9,6 @@ use Rattle.rulings.specs.declared.kinds.Reports.{Reports}
 use Rattle.rulings.specs.declared.kinds.Rule.{Rule}
 use Rattle.rulings.specs.declared.kinds.Rule.TheVariants.{Scpv, At, Hb, Pb, Rcu}
 use Rattle.rulings.specs.declared.kinds.SheetRow.{SheetRow}
-use Rattle.rulings.specs.declared.kinds.Verdict.{Verdict}
 use Rattle.rulings.specs.declared.kinds.Verdict.TheVariants.{Allowed, Forbidden}
 use Rattle.rulings.specs.declared.shapes.Shape.{Shape}
 use Rattle.rulings.specs.Names.{rule_name, report_name}

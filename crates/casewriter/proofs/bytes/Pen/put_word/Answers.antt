@@ -1,5 +1,4 @@
-use Rattle.std.proofs.lemmas.Grind.{common_steps}
-use Rattle.std.proofs.Common.{arith, rules}
+use Rattle.std.proofs.Common.{rules}
 use Rattle.casewriter.proofs.Laying.{put_none, word_more}
 use Rattle.casewriter.proofs.bytes.Pen.put_word.Goals as goal
 
