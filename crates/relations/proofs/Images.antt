@@ -1,7 +1,8 @@
 -- The targets of a set, gathered from one source after another.
 use Rattle.std.proofs.Common.{arith}
 use Rattle.std.proofs.lemmas.Bool.Decides.{nat_tests}
-use Rattle.std.proofs.Common.{◌≡◌, ℕ, ◌^◌, ◌<◌, Bool, true, false, ◌&&◌, ◌||◌, List, get_or, refl, subst, ⊎_elim}
+use Rattle.std.proofs.Common.{◌≡◌, ℕ, ◌^◌, ◌<◌, Bool, true, false, ◌&&◌, ◌||◌, List, get_or, refl, ap, subst, ⊎_elim}
+use mathlib.Core.Path.{fun_ext}
 use Rattle.std.proofs.Math.Bool.{or_assoc}
 use lib.Bits.{bit_or}
 use Rattle.std.proofs.lemmas.Bool.{cases_eq, and_from, or_cases, or_left, or_right}
@@ -54,6 +55,11 @@ image_split c s r low b = both_same (image r s b) (r c b || image r (dropping c 
 or_last : (x y : Bool) → y ≡ false → (x || y) ≡ x
 or_last true y e = refl
 or_last false y e = e
+
+-- before the first turn nothing is gathered, whatever set is to come
+pub either_zero : (t : Set) → either (bit 0) t ≡ t
+unfolding either
+either_zero t = fun_ext λ b. ap (λ (x : Bool). x || t b) (bit_zero b)
 
 pub gather_none : (r : Rel) (rest row : ℕ) → rest ≡ row → either (bit 0) (image r (bit rest)) ≡ image r (bit row)
 unfolding either

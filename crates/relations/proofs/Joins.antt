@@ -59,7 +59,7 @@ joined_more rows old k i long h l e has = set_is rows i _ (joined k (i + 1) (tab
     others a b n = ap (λ (r : Rel). r a b) e ∙ joined_other k i a (table old) b n
 
 -- all rows
-joined_past : (k m : ℕ) (r : Rel) → ((a b : ℕ) → r a b ≡ true → a < m) → joined k m r ≡ via k r
+pub joined_past : (k m : ℕ) (r : Rel) → ((a b : ℕ) → r a b ≡ true → a < m) → joined k m r ≡ via k r
 unfolding joined via
 joined_past k m r on = grind (arith, nat_tests)
 

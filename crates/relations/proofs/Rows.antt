@@ -1,8 +1,8 @@
 -- What one row of an operation's result holds, bit by bit.
-use Rattle.std.proofs.Common.{◌≡◌, ℕ, ◌-◌, ◌^◌, ◌<◌, min, not, ◌&&◌, List, get_or, sym, ap, ◌∙◌, ap₂, arith}
+use Rattle.std.proofs.Common.{◌≡◌, ℕ, ◌-◌, ◌^◌, ◌<◌, min, Bool, not, ◌&&◌, List, get_or, sym, ap, ◌∙◌, ap₂, arith}
 use lib.Bits.{bit_and, bit_or}
 use Rattle.std.proofs.lemmas.Bool.Decides.{nat_tests}
-use Rattle.rows.specs.Row.{bit, adding}
+use Rattle.rows.specs.Row.{bit, adding, below}
 use Rattle.rows.proofs.Bits.{bit-bit_or, bit-bit_and, bit_not, bit_zero}
 use Rattle.relations.specs.Algebra.{Rel, identity, union, inter, diff, seq, product, from, to, within, image}
 use Rattle.relations.specs.Table.{table}
@@ -39,6 +39,12 @@ pub product_row : (m n a s t w : ℕ) → m ≡ min n 64 → a < m → ((b : ℕ
     → (b : ℕ) → b < m → bit w b ≡ product (within n (bit s)) (within n (bit t)) a b
 unfolding product within
 product_row m n a s t w small h row b k = row b ∙ grind (arith, nat_tests)
+
+-- the same of a row that is cut at the last event
+pub product_cut : (m n a s t v w : ℕ) (keep : Bool) → m ≡ min n 64 → a < m → bit v ≡ below m → keep ≡ bit s a → ((b : ℕ) → bit w b ≡ (keep && bit (bit_and t v) b))
+    → (b : ℕ) → b < 64 → bit w b ≡ product (within n (bit s)) (within n (bit t)) a b
+unfolding product within below
+product_cut m n a s t v w keep small h low e row b k = row b ∙ rw (e, bit-bit_and t v b, low) (grind (arith, nat_tests))
 
 -- the row of a sequence: the targets of the first step's targets
 pub seq_row : (xs : List ℕ) (r : Rel) (a w : ℕ) → a < 64 → get_or xs a 0 < 2 ^ 64 → bit w ≡ image r (bit (get_or xs a 0)) → (b : ℕ) → b < 64 → bit w b ≡ seq (table xs) r a b

@@ -1,9 +1,9 @@
 -- Loops that write a table row by row: the first i rows are those of the relation wanted, the others are still empty.
 use Rattle.std.proofs.lemmas.Bool.Decides.{nat_tests}
-use Rattle.std.proofs.Common.{◌≡◌, ℕ, ◌+◌, ◌-◌, ◌^◌, ◌<◌, ◌≤◌, Bool, true, false, List, ◌++◌, length, get_or, set, take, drop, replicate, sym, refl, ap, ◌∙◌, ⊎_elim, arith}
+use Rattle.std.proofs.Common.{◌≡◌, ℕ, ◌+◌, ◌-◌, ◌^◌, ◌<◌, ◌≤◌, Bool, true, false, List, ◌++◌, length, get_or, set, take, drop, replicate, sym, refl, ap, ◌∙◌, subst, ⊎_elim, arith}
 use mathlib.Core.Path.{fun_ext}
-use Rattle.std.proofs.lemmas.List.{get_or-set_same, get_or-set_other, get_or-replicate, get_or_past, get_or-take, get_or-drop, get_or_append_left, get_or-append_right, length-take}
-use Rattle.std.proofs.lemmas.Bool.{false_from_ne_true, lt-ltb, le-ltb, cases_lt, both_ways}
+use Rattle.std.proofs.lemmas.List.{get_or-set_same, get_or-set_other, length-set, get_or-replicate, get_or_past, get_or-take, get_or-drop, get_or_append_left, get_or-append_right, length-take}
+use Rattle.std.proofs.lemmas.Bool.{false_from_ne_true, lt-ltb, le-ltb, cases_lt, cases_eq, both_ways}
 use Rattle.rows.specs.Row.{bit}
 use Rattle.rows.proofs.Bits.{bit_zero, bit_outside}
 use Rattle.relations.specs.Algebra.{Rel, empty}
@@ -81,6 +81,40 @@ table_zeros =
 
 pub done_none : (r : Rel) → Done (replicate 64 0) 0 r
 done_none r = record { long = refl; front = λ a b h k. absurd (omega arith); rest = λ a h. zeros_at a }
+
+-- and after any turns, where the empty relation is wanted
+pub done_empty : (i : ℕ) → Done (replicate 64 0) i empty
+unfolding empty
+done_empty i = record { long = refl; front = λ a b h k. ap (λ (v : ℕ). bit v b) (zeros_at a) ∙ bit_zero b; rest = λ a h. zeros_at a }
+
+-- one more row
+pub done_more : (rows : List ℕ) (i w : ℕ) (r : Rel) → i < 64 → Done rows i r → ((b : ℕ) → b < 64 → bit w b ≡ r i b) → Done (set rows i w) (i + 1) r
+done_more rows i w r h d new = record { long = length-set rows i w ∙ d.long; front = front; rest = rest }
+  where
+    front : (a b : ℕ) → a < i + 1 → b < 64 → bit (get_or (set rows i w) a 0) b ≡ r a b
+    front a b l k = ⊎_elim same other (cases_eq a i)
+      where
+        same : a ≡ i → bit (get_or (set rows i w) a 0) b ≡ r a b
+        same e = subst (λ (x : ℕ). bit (get_or (set rows i w) x 0) b ≡ r x b) (sym e) (ap (λ (v : ℕ). bit v b) (get_or-set_same rows i w 0 (omega (arith, d.long))) ∙ new b k)
+
+        other : (a ≡ i → ⊥) → bit (get_or (set rows i w) a 0) b ≡ r a b
+        other n = ap (λ (v : ℕ). bit v b) (get_or-set_other rows i a w 0 n) ∙ d.front a b (omega arith) k
+
+    rest : (a : ℕ) → i + 1 ≤ a → get_or (set rows i w) a 0 ≡ 0
+    rest a l = get_or-set_other rows i a w 0 (λ e. omega arith) ∙ d.rest a (omega arith)
+
+-- a row that stays empty
+pub done_skip : (rows : List ℕ) (i : ℕ) (r : Rel) → Done rows i r → ((b : ℕ) → b < 64 → r i b ≡ false) → Done rows (i + 1) r
+done_skip rows i r d none = record { long = d.long; front = front; rest = λ a l. d.rest a (omega arith) }
+  where
+    front : (a b : ℕ) → a < i + 1 → b < 64 → bit (get_or rows a 0) b ≡ r a b
+    front a b l k = ⊎_elim same other (cases_eq a i)
+      where
+        same : a ≡ i → bit (get_or rows a 0) b ≡ r a b
+        same e = ap (λ (v : ℕ). bit v b) (d.rest a (omega arith)) ∙ bit_zero b ∙ sym (none b k) ∙ ap (λ (x : ℕ). r x b) (sym e)
+
+        other : (a ≡ i → ⊥) → bit (get_or rows a 0) b ≡ r a b
+        other n = d.front a b (omega arith) k
 
 -- all rows: the table is the relation, where that is on the events of the loop
 pub done_is : (rows : List ℕ) (i n : ℕ) (r : Rel) → n ≤ i → n ≤ 64 → On n r → Done rows i r → table rows ≡ r
