@@ -55,27 +55,28 @@ key_apart p a b h l e = omega arith
 
 -- ---- so ranks by these keys are an order
 
-pub order_from : (r s p : Rel) (n : ℕ) (keys : List ℕ) (place : ℕ → ℕ) → n ≤ 64 → length keys ≡ n → On n r → DecidesChains s r → ((x : ℕ) → s x x ≡ false) → p ≡ inverse s
-    → ((a : ℕ) → a < n → get_or keys a 0 ≡ key p a) → ((a : ℕ) → a < n → place a ≡ rank (length keys) (λ b. get_or keys b 0) (get_or keys a 0)) → IsOrder r n place
-order_from r s p n keys place few long on chains none turned known ranked = record {
-  below = λ a l. rw (at a l) (rank_below n of a l);
+pub order_from : (r s p : Rel) (n : ℕ) (keys place : ℕ → ℕ) → n ≤ 64 → On n r → DecidesChains s r → ((x : ℕ) → s x x ≡ false) → p ≡ inverse s
+    → ((a : ℕ) → a < n → keys a ≡ key p a) → ((a : ℕ) → a < n → place a ≡ rank n keys (keys a)) → IsOrder r n place
+order_from r s p n keys place few on chains none turned known ranked = record {
+  below = λ a l. rw (ranked a l) (rank_below n keys a l);
   apart = apart;
   rising = λ a b h. place_rises a b (on a b h).0 (on a b h).1 (keys_rise a b h);
 }
   where
-    of : ℕ → ℕ
-    of a = get_or keys a 0
-
-    at : (a : ℕ) → a < n → place a ≡ rank n of (of a)
-    at a l = ranked a l ∙ ap (λ (m : ℕ). rank m of (of a)) long
-
-    keys_rise : (a b : ℕ) → r a b ≡ true → of a < of b
+    keys_rise : (a b : ℕ) → r a b ≡ true → keys a < keys b
     keys_rise a b h = rw (known a (on a b h).0, known b (on a b h).1, turned) (key_rises r s a b (on_more n 64 r few on) chains none h)
 
-    place_rises : (a b : ℕ) → a < n → b < n → of a < of b → place a < place b
-    place_rises a b l m h = rw (at a l, at b m) (rank_rises n of a b l h)
+    place_rises : (a b : ℕ) → a < n → b < n → keys a < keys b → place a < place b
+    place_rises a b l m h = rw (ranked a l, ranked b m) (rank_rises n keys a b l h)
 
     apart : (a b : ℕ) → a < n → b < n → place a ≡ place b → a ≡ b
     apart a b l m e =
         ⊎_elim (λ z. key_apart p a b (omega arith) (omega arith) (sym (known a l) ∙ z ∙ known b m))
-        (λ z. ⊎_elim (λ h. absurd (omega (arith, place_rises a b l m h))) (λ h. absurd (omega (arith, place_rises b a m l h))) z) (cases_order (of a) (of b))
+        (λ z. ⊎_elim (λ h. absurd (omega (arith, place_rises a b l m h))) (λ h. absurd (omega (arith, place_rises b a m l h))) z) (cases_order (keys a) (keys b))
+
+-- the same of a list of keys
+pub order_listed : (r s p : Rel) (n : ℕ) (keys : List ℕ) (place : ℕ → ℕ) → n ≤ 64 → length keys ≡ n → On n r → DecidesChains s r → ((x : ℕ) → s x x ≡ false) → p ≡ inverse s
+    → ((a : ℕ) → a < n → get_or keys a 0 ≡ key p a) → ((a : ℕ) → a < n → place a ≡ rank (length keys) (λ b. get_or keys b 0) (get_or keys a 0)) → IsOrder r n place
+order_listed r s p n keys place few long on chains none turned known ranked =
+    order_from r s p n (λ a. get_or keys a 0) place few on chains none turned known
+    (λ a l. ranked a l ∙ ap (λ (m : ℕ). rank m (λ b. get_or keys b 0) (get_or keys a 0)) long)
