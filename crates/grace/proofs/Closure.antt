@@ -5,8 +5,8 @@ use Rattle.std.proofs.Common.{◌≡◌, ℕ, ◌<◌, Bool, true, false, ◌⊎
 use Rattle.std.proofs.lemmas.Bool.{and_from, or_cases, or_left, or_right, both_ways}
 use Rattle.rows.proofs.Any.{any_some, any_from}
 use Rattle.relations.specs.Algebra.{Rel, any, identity, union, seq, plus, opt, star}
-use Rattle.relations.specs.Chains.{Chain, Acyclic}
-use Rattle.relations.proofs.Closure.{paths_sound, closure_decides, chain_ends, on_paths}
+use Rattle.relations.specs.Chains.{Chain, Chain.one, Chain.step, Acyclic}
+use Rattle.relations.proofs.Closure.{paths_sound, paths_first, paths_join, on_paths}
 use Rattle.relations.proofs.Ranges.{on_either, on_identity}
 use Rattle.grace.specs.Scene.{Within}
 
@@ -42,6 +42,23 @@ pub plus_chain : (r : Rel) {a b : ℕ} → On (plus r) a b → Chain r a b
 unfolding plus
 plus_chain r {a} {b} e = paths_sound 64 r a b e
 
+-- every step of r begins at one of the first 64 events
+abbrev pub Starts : Rel → Type 0
+Starts r = (a b : ℕ) → On r a b → a < 64
+
+-- as where r is on the first 64 events
+pub starts_from : (r : Rel) → Within 64 r → Starts r
+starts_from r small a b e = (small a b e).0
+
+pub chain_start : {r : Rel} {a b : ℕ} → Starts r → Chain r a b → a < 64
+chain_start l (one e) = l _ _ e
+chain_start l (step e h) = l _ _ e
+
+pub chain_plus : (r : Rel) {a b : ℕ} → Starts r → Chain r a b → On (plus r) a b
+unfolding plus
+chain_plus r {a} {b} l (one e) = paths_first 64 r a b e
+chain_plus r {a} {b = c} l (step {b = b} e h) = paths_join 64 b r a c (chain_start l h) (paths_first 64 r a b e) (chain_plus r l h)
+
 pub star_cases : (n : ℕ) (r : Rel) {a b : ℕ} → On (star n r) a b → ((a ≡ b) × (a < n)) ⊎ Chain r a b
 unfolding star opt union identity
 star_cases n r {a} {b} e = grind (arith, nat_tests, plus_chain)
@@ -50,9 +67,9 @@ pub star_here : (n : ℕ) (r : Rel) {a b : ℕ} → a ≡ b → a < n → On (st
 unfolding star opt union identity
 star_here n r {a} {b} e l = grind (arith, nat_tests)
 
-pub star_chain : (n : ℕ) (r : Rel) {a b : ℕ} → Within 64 r → Chain r a b → On (star n r) a b
+pub star_chain : (n : ℕ) (r : Rel) {a b : ℕ} → Starts r → Chain r a b → On (star n r) a b
 unfolding star opt
-star_chain n r {a} {b} small h = union_left _ _ ((closure_decides r small a b).1 h)
+star_chain n r {a} {b} l h = union_left _ _ (chain_plus r l h)
 
 pub star_within : (n : ℕ) (r : Rel) → Within n r → Within n (star n r)
 unfolding star opt plus
@@ -60,9 +77,9 @@ star_within n r on = on_either n (plus r) (identity n) (on_paths 64 n r on) (on_
 
 -- ---- whether a relation has a cycle is decided
 
-pub dec_acyclic : (r : Rel) → Within 64 r → Dec (Acyclic r)
-dec_acyclic r small = by (any 64 (λ a. plus r a a)) refl
+pub dec_acyclic : (r : Rel) → Starts r → Dec (Acyclic r)
+dec_acyclic r l = by (any 64 (λ a. plus r a a)) refl
   where
     by : (t : Bool) → any 64 (λ a. plus r a a) ≡ t → Dec (Acyclic r)
     by true e = let h = any_some 64 _ e in no (λ k. k h.0 (plus_chain r h.2))
-    by false e = yes (λ a h. both_ways _ e (any_from 64 a _ (chain_ends 64 r small h).0 ((closure_decides r small a a).1 h)))
+    by false e = yes (λ a h. both_ways _ e (any_from 64 a _ (chain_start l h) (chain_plus r l h)))

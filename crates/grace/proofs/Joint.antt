@@ -7,12 +7,12 @@ use Rattle.relations.specs.Chains.{Chain, Chain.one, Chain.step, Acyclic}
 use Rattle.relations.proofs.Closure.{chain_append}
 use Rattle.grace.specs.Scene.{Scene, Sound, pb}
 use Rattle.grace.specs.Joint.{JointOrderLaw}
-use Rattle.grace.proofs.Closure.{On, union_cases, star_cases, star_chain}
+use Rattle.grace.proofs.Closure.{On, union_cases, starts_from, star_cases, star_chain}
 use Rattle.grace.proofs.Rules.{Hb, hb_small, pb_parts, pb_from}
 
 module _ (x : Scene) (sound : Sound x) (f : Rel) where
   hb_more : (a : ℕ) {b c : ℕ} → Hb x a b → Chain x.hb b c → Hb x a c
-  hb_more a {b} {c} e h = grind (arith, nat_tests, star_chain, hb_small, chain_append, star_cases)
+  hb_more a {b} {c} e h = grind (arith, nat_tests, star_chain, starts_from, hb_small, chain_append, star_cases)
 
   -- a pb step takes up the hb steps after it
   pb_more : (a : ℕ) {b c : ℕ} → On (pb x f) a b → Chain x.hb b c → On (pb x f) a c

@@ -5,7 +5,7 @@ use Rattle.relations.specs.Algebra.{union}
 use Rattle.relations.specs.Chains.{Acyclic}
 use Rattle.grace.specs.Scene.{Scene, Sound}
 use Rattle.grace.specs.Law.{Kept, Table, pairs, enlarged, PrecedenceLaw}
-use Rattle.grace.proofs.Closure.{On, union_left, dec_acyclic}
+use Rattle.grace.proofs.Closure.{On, union_left, starts_from, dec_acyclic}
 use Rattle.grace.proofs.Trips.{round_mono}
 use Rattle.grace.proofs.Grounds.{Clear, relay_mono, clear_mono, one_order}
 use Rattle.grace.proofs.Cancel.{no_round}
@@ -62,7 +62,7 @@ module _ (x : Scene) (sound : Sound x) where
 
   dec_choice : (k i : ℕ) (F : Table) → Dec (Choice k i F)
   unfolding Choice enlarged
-  dec_choice zero i F = dec_acyclic (enlarged x F) (pb_small x sound (union x.strong (pairs x F)))
+  dec_choice zero i F = dec_acyclic (enlarged x F) (starts_from _ (pb_small x sound (union x.strong (pairs x F))))
   dec_choice (suc k) i F = dec_either (dec_choice k (suc i) (put F i true)) (dec_choice k (suc i) (put F i false))
 
   -- at each place one of the two orders stays clear

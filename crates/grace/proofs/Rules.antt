@@ -9,7 +9,7 @@ use Rattle.relations.proofs.Closure.{chain_append, chain_ends}
 use Rattle.relations.proofs.Ranges.{on_more}
 use Rattle.grace.specs.Scene.{Scene, Sound, Within, gp, rscs, pb, link}
 use Rattle.grace.specs.Law.{Walk, Walk.here, Walk.by_period, Walk.by_section, Rcu, Kept, before_unlock, from_on}
-use Rattle.grace.proofs.Closure.{On, seq_parts, seq_from, star_cases, star_here, star_chain, star_within}
+use Rattle.grace.proofs.Closure.{On, seq_parts, seq_from, starts_from, star_cases, star_here, star_chain, star_within}
 use Rattle.grace.proofs.Trips.{Links, Trip, Trip.last, Trip.via, Round, Round.round}
 use Rattle.grace.proofs.Grounds.{Ground, Period, Section, Relay, Relay.fence, Relay.period, Relay.section, Clear}
 use Rattle.grace.proofs.Cancel.{Link, Link.end, Link.more}
@@ -124,7 +124,7 @@ module _ (x : Scene) (sound : Sound x) where
     way_link (way {c} {d} h (inl e) p) =
         let l : c < x.count = subst (λ k. k < x.count) (sym e) (sound.prop_within d _ p).0 in
         link_from _ _ c d h (omega (arith, l, sound.few)) (star_here x.count (pb x f) e l) p
-    way_link (way {c} {d} h (inr s) p) = link_from _ _ c d h (chain_ends 64 (pb x f) pb_small s).0 (star_chain x.count (pb x f) pb_small s) p
+    way_link (way {c} {d} h (inr s) p) = link_from _ _ c d h (chain_ends 64 (pb x f) pb_small s).0 (star_chain x.count (pb x f) (starts_from _ pb_small) s) p
 
     -- ---- from trips to walks
 

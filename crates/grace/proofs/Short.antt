@@ -1,10 +1,10 @@
 -- Short trips: a trip that takes two relays from one event has a round in it, or is no worse without what lies between. So rounds are
 -- short, and where there is none each trip has a short one that is no worse.
-use Rattle.std.proofs.Common.{◌≡◌, ℕ, ◌+◌, ◌<◌, ◌≤◌, true, false, ◌||◌, eqb, ◌⊎◌, sym, refl, ◌∙◌, subst, inl, inr, ⊎_elim, true≢false, arith}
+use Rattle.std.proofs.Common.{◌≡◌, ℕ, zero, suc, ◌+◌, ◌<◌, ◌≤◌, true, false, ◌||◌, eqb, ◌⊎◌, sym, refl, ap, ◌∙◌, subst, inl, inr, ⊎_elim, true≢false, arith}
 use Rattle.std.proofs.lemmas.Bool.{cases_Bool, cases_eq, cases_lt}
 use Rattle.std.proofs.lemmas.Bool.Decides.{nat_tests}
-use Rattle.rows.specs.Row.{Set, count}
-use Rattle.rows.proofs.Words.{count_lacks, count_le}
+use Rattle.rows.specs.Row.{Set, count, tick}
+use Rattle.rows.proofs.Words.{count_le}
 use Rattle.grace.proofs.Trips.{Links, Relays, Trip, Trip.last, Trip.via, Round, Round.round}
 
 -- ---- sets, and sets with one event more
@@ -16,7 +16,7 @@ none_has : (a : ℕ) → none a ≡ false
 unfolding none
 none_has a = refl
 
-adding : ℕ → Set → Set
+pub adding : ℕ → Set → Set
 adding a s b = s b || eqb b a
 
 adding_there : (a : ℕ) (s : Set) → adding a s a ≡ true
@@ -35,9 +35,30 @@ adding_cases : (a : ℕ) (s : Set) (b : ℕ) → adding a s b ≡ true → (s b 
 unfolding adding
 adding_cases a s b h = grind (arith, nat_tests)
 
+count_past : (n a : ℕ) (s : Set) → n ≤ a → count n (adding a s) ≡ count n s
+unfolding count
+count_past zero a s le = refl
+count_past (suc n) a s le = let e = ap tick (adding_other a s n (λ e. omega arith)) in omega (arith, e, count_past n a s (omega arith))
+
+count_top : (n : ℕ) (s : Set) → s n ≡ false → count (suc n) (adding n s) ≡ suc (count (suc n) s)
+unfolding count
+count_top n s fresh =
+    let u : tick (adding n s n) ≡ 1 = ap tick (adding_there n s) in
+    let v : tick (s n) ≡ 0 = ap tick fresh in
+    omega (arith, u, v, count_past n n s (omega arith))
+
 -- a new member counts
+pub size_more : (n a : ℕ) (s : Set) → a < n → s a ≡ false → count n (adding a s) ≡ suc (count n s)
+unfolding count
+size_more zero a s lt fresh = absurd (omega arith)
+size_more (suc n) a s lt fresh =
+    ⊎_elim (λ e. subst (λ m. s m ≡ false → count (suc n) (adding m s) ≡ suc (count (suc n) s)) (sym e) (count_top n s) fresh)
+    (λ apart. let u : tick (adding a s n) ≡ tick (s n) = ap tick (adding_other a s n (λ e. apart (sym e))) in
+    omega (arith, u, size_more n a s (omega arith) fresh))
+    (cases_eq a n)
+
 more_count : (n a : ℕ) (s : Set) → a < n → s a ≡ false → count n s < count n (adding a s)
-more_count n a s lt fresh = count_lacks n a s (adding a s) (λ b l h. adding_old a s b h) lt fresh (adding_there a s)
+more_count n a s lt fresh = omega (arith, size_more n a s lt fresh)
 
 -- ---- trips
 
