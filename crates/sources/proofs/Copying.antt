@@ -42,6 +42,23 @@ row_more rows x number a w h before here b l = ⊎_elim same other (cases_eq b a
     other : (b ≡ a → ⊥) → bit (get_or (set rows a w) b 0) ≡ targets x number b
     other n = ap bit (get_or-set_other rows a b w 0 n) ∙ before b (omega arith)
 
+-- the same of a row that is written in its place among the words
+pub row_in_place : (ws : List ℕ) (x : Execution) (k a w : ℕ) → 64 * k + a < length ws
+    → ((b : ℕ) → b < a → bit (get_or ws (64 * k + b) 0) ≡ targets x (k + 1) b) → bit w ≡ targets x (k + 1) a
+    → (b : ℕ) → b < a + 1 → bit (get_or (set ws (64 * k + a) w) (64 * k + b) 0) ≡ targets x (k + 1) b
+row_in_place ws x k a w h before here b l = ⊎_elim same other (cases_eq b a)
+  where
+    same : b ≡ a → bit (get_or (set ws (64 * k + a) w) (64 * k + b) 0) ≡ targets x (k + 1) b
+    same e = rw (e, get_or-set_same ws (64 * k + a) w 0 h) here
+
+    other : (b ≡ a → ⊥) → bit (get_or (set ws (64 * k + a) w) (64 * k + b) 0) ≡ targets x (k + 1) b
+    other n = ap bit (get_or-set_other ws (64 * k + a) (64 * k + b) w 0 (λ e. n (omega arith))) ∙ before b (omega arith)
+
+-- the rows of the relations before stay
+pub rows_kept : (ws vs : List ℕ) (k a w : ℕ) → ((i : ℕ) → i < 64 * k → get_or ws i 0 ≡ get_or vs i 0)
+    → (i : ℕ) → i < 64 * k → get_or (set ws (64 * k + a) w) i 0 ≡ get_or vs i 0
+rows_kept ws vs k a w before i h = get_or-set_other ws (64 * k + a) i w 0 (λ e. omega arith) ∙ before i h
+
 -- the rows of a relation in their place among the words
 module _ (ws rows rest : List ℕ) (first n : ℕ) (room : first ≤ length ws) (long : length rows ≡ n) where
   pub placed : (a i : ℕ) → a < n → i ≡ first + a → get_or (take first ws ++ (rows ++ rest)) i 0 ≡ get_or rows a 0
