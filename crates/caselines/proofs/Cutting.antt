@@ -42,6 +42,14 @@ cut_append stop (x ∷ l) rest a =
     let parts = and_parts (not (eqb x stop)) (absent stop l) a in
     rw (not-true (eqb x stop) parts.0, cut_append stop l rest parts.1) refl
 
+-- and one that has no stop
+pub cut_absent : (stop : ℕ) (l : List ℕ) → absent stop l ≡ true → cut stop l ≡ None
+unfolding cut
+cut_absent stop [] a = refl
+cut_absent stop (x ∷ l) a =
+    let parts = and_parts (not (eqb x stop)) (absent stop l) a in
+    rw (not-true (eqb x stop) parts.0, cut_absent stop l parts.1) refl
+
 same_halves : (a b f g : List ℕ) → ◌≡◌ {A = Option (List ℕ × List ℕ)} (Some (a, b)) (Some (f, g)) → (a ≡ f) × (b ≡ g)
 same_halves a b f g e = let pair = same_Some _ _ e in (ap (λ q. q.0) pair, ap (λ q. q.1) pair)
 

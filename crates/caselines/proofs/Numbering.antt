@@ -1,5 +1,5 @@
 -- Numbers of up to five digits and the fields that write them.
-use Rattle.std.proofs.Common.{true≢false, ◌≡◌, ℕ, ◌+◌, ◌^◌, ◌<◌, ◌≤◌, Bool, true, false, not, ◌&&◌, eqb, ltb, List, [], ◌∷◌, length, get_or, drop, Some, None, decimal, sym, refl, ap, ◌∙◌, subst, ⊎_elim, arith, rules}
+use Rattle.std.proofs.Common.{true≢false, ◌≡◌, ℕ, ◌+◌, ◌*◌, ◌^◌, ◌<◌, ◌≤◌, Bool, true, false, not, ◌&&◌, eqb, ltb, List, [], ◌∷◌, length, get_or, drop, Some, None, decimal, sym, refl, ap, ◌∙◌, subst, ⊎_elim, pow-suc, add-one, arith, rules}
 use Rattle.std.specs.Char.{is_ascii_digit}
 use Rattle.std.specs.Str.{all_ascii_digits}
 use Rattle.std.proofs.lemmas.Bool.{and_parts, eqb-true, cases_Bool, cases_eq}
@@ -45,6 +45,10 @@ is_number ds n = rw (numeral_whole ds n) refl
 -- the digits from a place on
 pub digit_fails : (ds : List ℕ) (i : ℕ) → i < length ds → all_ascii_digits ds ≡ all_ascii_digits (drop i ds) → (is_ascii_digit (get_or ds i 0) ≡ true → ⊥) → all_ascii_digits ds ≡ true → ⊥
 digit_fails ds i h e n a = n (and_parts (is_ascii_digit (get_or ds i 0)) (all_ascii_digits (drop (i + 1) ds)) (sym (at_drop_more all_ascii_digits ds i 0 h) ∙ sym e ∙ a)).0
+
+-- ten times more for a digit more
+pub room_more : (n d i : ℕ) → n < 10 ^ i → d ≤ 9 → 10 * n + d < 10 ^ (i + 1)
+room_more n d i h k = rw (add-one i) (omega (arith, pow-suc 10 i))
 
 -- a zero before other digits
 pub leading : (ds : List ℕ) → (ltb 1 (length ds) && eqb (get_or ds 0 0) 48) ≡ true → (1 < length ds) × (get_or ds 0 0 ≡ 48)
