@@ -1,5 +1,5 @@
 -- A text that is scanned line by line.
-use Rattle.std.proofs.Common.{◌≡◌, ℕ, ◌+◌, ◌-◌, ◌<◌, ◌≤◌, Bool, true, false, cond, not, eqb, ltb, List, [], ◌∷◌, ◌++◌, Some, None, Ok, Err, Option, Result, sym, refl, ap, ◌∙◌, subst, ⊎_elim, arith}
+use Rattle.std.proofs.Common.{◌≡◌, ℕ, ◌+◌, ◌-◌, ◌^◌, ◌<◌, ◌≤◌, Bool, true, false, cond, not, eqb, ltb, List, [], ◌∷◌, ◌++◌, Some, None, Ok, Err, Option, Result, sym, refl, ap, ◌∙◌, subst, ⊎_elim, arith}
 use Rattle.std.proofs.lemmas.List.{append-nil, append_assoc}
 use Rattle.std.proofs.lemmas.Bool.{and_parts, not-true, eqb-false, cases_eq}
 use Rattle.executions.specs.declared.faults.Cause.TheVariants.{LineOrder}
@@ -70,6 +70,14 @@ Within InTies left line = line + left ≤ 200001
 
 abbrev pub Bounded : Reader → Type 0
 Bounded s = Within s.section s.left s.line
+
+few : (section : Section) (left line : ℕ) → Within section left line → line < 2 ^ 31
+few Start left line h = omega arith
+few InEvents left line h = omega arith
+few InTies left line h = omega arith
+
+pub bounded_line : (s : Reader) → Bounded s → s.line < 2 ^ 31
+bounded_line s h = few s.section s.left s.line h
 
 pub no_reader : (f : TextFault) (t : Reader) → ◌≡◌ {A = Result Reader TextFault} (Err f) (Ok t) → ⊥
 no_reader f t e = let z : ◌≡◌ {A = ℕ} 0 1 = cc in absurd (omega arith)
