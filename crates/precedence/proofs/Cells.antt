@@ -43,6 +43,11 @@ upto_here row old i f l u = u.rest i (omega arith) ∙ sym (cell_at old i l)
 pub zero_cells : (b : ℕ) → cells (replicate 64 0) b ≡ 0
 zero_cells b = ⊎_elim (λ l. cell_at (replicate 64 0) b l ∙ get_or-replicate 64 b 0 0 l) (λ l. cell_far (replicate 64 0) b l) (cases_lt b 64)
 
+-- a row of zeros of which the first n entries were set, where the others stay 0
+pub upto_short : (row : List ℕ) (i n : ℕ) (f : ℕ → ℕ) → n ≤ i → Upto row (replicate 64 0) i f → ((b : ℕ) → n ≤ b → f b ≡ 0) → n ≤ 64 → cells row ≡ f
+upto_short row i n f le u far few =
+    cells_are row f (λ b l. ⊎_elim (λ m. u.front b m) (λ m. u.rest b m ∙ get_or-replicate {A = ℕ} 64 b 0 0 l ∙ sym (far b (omega arith))) (cases_lt b i)) (λ b l. far b (omega arith))
+
 -- ---- a loop over the first n entries of a list, each of which gets its value
 
 pub front_more : {A : Type 0} (xs : List A) (i : ℕ) (w d : A) (P : ℕ → A → Type 0) → i < length xs → ((k : ℕ) → k < i → P k (get_or xs k d)) → P i w

@@ -1,11 +1,13 @@
 -- Two ways joined, and the rows of a sheet with a relay besides.
 use Rattle.std.proofs.lemmas.Bool.Decides.{nat_tests}
-use Rattle.std.proofs.Common.{◌≡◌, ℕ, ◌+◌, ◌-◌, ◌<◌, ◌≤◌, max, List, [], length, get_or, set, sym, refl, ap, subst, arith}
-use Rattle.std.proofs.lemmas.List.{get_or-set_same, get_or-set_other, length-set}
+use Rattle.std.proofs.Common.{◌≡◌, ℕ, ◌+◌, ◌-◌, ◌<◌, ◌≤◌, max, List, [], length, get_or, set, replicate, sym, refl, ap, ◌∙◌, subst, ⊎_elim, arith}
+use mathlib.Core.Path.{fun_ext}
+use Rattle.std.proofs.lemmas.List.{get_or-set_same, get_or-set_other, length-set, get_or-replicate}
+use Rattle.std.proofs.lemmas.Bool.{cases_eq, cases_lt}
 use Rattle.relations.specs.Algebra.{Set}
 use Rattle.grace.specs.Sheet.{Sheet, Fits, most, joined, relayed}
 use Rattle.precedence.specs.Rows.{cells, sheet}
-use Rattle.precedence.proofs.Cells.{sheet_past}
+use Rattle.precedence.proofs.Cells.{sheet_past, zero_cells}
 use Rattle.precedence.proofs.Largest.{most_zero}
 use Rattle.grace.proofs.Sheets.{joined_none}
 
@@ -36,11 +38,34 @@ rowed_set : (m old : List (List ℕ)) (i : ℕ) (row : List ℕ) (new : Sheet) �
 unfolding sheet
 rowed_set m old i row new l u e = grind (arith, nat_tests, length-set, get_or-set_same, get_or-set_other)
 
+rowed_same : (m old : List (List ℕ)) (i : ℕ) (new : Sheet) → Rowed m old i new → sheet old i ≡ new i → Rowed m old (i + 1) new
+unfolding sheet
+rowed_same m old i new u e = record {
+  long = u.long;
+  front = λ k h. ⊎_elim (λ z. rw z (ap cells (u.rest i (omega arith)) ∙ e)) (λ z. u.front k (omega arith)) (cases_eq k i);
+  rest = λ k h. u.rest k (omega arith);
+}
+
 pub rowed_more : (m m' old : List (List ℕ)) (i : ℕ) (row : List ℕ) (new : Sheet) → m' ≡ set m i row → i < 64 → Rowed m old i new → cells row ≡ new i → Rowed m' old (i + 1) new
 rowed_more m m' old i row new is l u e = subst (λ (k : List (List ℕ)). Rowed k old (i + 1) new) (sym is) (rowed_set m old i row new l u e)
 
+-- a row that stays
+pub rowed_skip : (m m' old : List (List ℕ)) (i : ℕ) (new : Sheet) → m' ≡ m → Rowed m old i new → sheet old i ≡ new i → Rowed m' old (i + 1) new
+rowed_skip m m' old i new is u e = subst (λ (k : List (List ℕ)). Rowed k old (i + 1) new) (sym is) (rowed_same m old i new u e)
+
 pub rowed_all : (m old : List (List ℕ)) (i : ℕ) (new : Sheet) → 64 ≤ i → Rowed m old i new → ((a b : ℕ) → 64 ≤ a → new a b ≡ 0) → sheet m ≡ new
 rowed_all m old i new le u far = grind (arith, nat_tests, sheet_past)
+
+-- a sheet of zeros of which the first n rows were set, where the others stay 0
+pub rowed_short : (m : List (List ℕ)) (i n : ℕ) (new : Sheet) → n ≤ i → n ≤ 64 → Rowed m (replicate 64 (replicate 64 0)) i new → ((a b : ℕ) → n ≤ a → new a b ≡ 0) → sheet m ≡ new
+unfolding sheet
+rowed_short m i n new le few u far = fun_ext λ a. ⊎_elim (λ l. u.front a l) (λ l. ⊎_elim (inside a l) (outside a l) (cases_lt a 64)) (cases_lt a i)
+  where
+    inside : (a : ℕ) → i ≤ a → a < 64 → cells (get_or m a []) ≡ new a
+    inside a l k = fun_ext λ b. ap (λ (r : List ℕ). cells r b) (u.rest a l ∙ get_or-replicate 64 a (replicate 64 0) [] k) ∙ zero_cells b ∙ sym (far a b (omega arith))
+
+    outside : (a : ℕ) → i ≤ a → 64 ≤ a → cells (get_or m a []) ≡ new a
+    outside a l k = fun_ext λ b. sheet_past m a b u.long k ∙ sym (far a b (omega arith))
 
 -- the row at i as the loop finds it
 pub rowed_here : (m old : List (List ℕ)) (i : ℕ) (new : Sheet) → Rowed m old i new → cells (get_or m i []) ≡ sheet old i
