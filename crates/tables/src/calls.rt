@@ -1,6 +1,6 @@
 // The calls that build a case. The tables are the caller's and come with each call; a relation is named by its number, since a caller may name
 // one that there is not.
-ghost use Rattle.std.specs.Prelude.{◌≡◌, ◌||◌, cond, length, Some, None};
+ghost use Rattle.std.specs.Prelude.{◌≡◌, ◌≤◌, ◌||◌, cond, length, Some, None};
 ghost use Rattle.std.specs.Result.{result_err};
 ghost use Rattle.rows.specs.Row.{adding, dropping};
 ghost use Rattle.executions.specs.declared.faults.Cause.TheVariants.{TooShort};
@@ -132,6 +132,7 @@ fn is_tied(ties: &[u64], relation: Relation, a: usize, b: usize) -> bool
 
 // Whether a tie is there, or would be one too many among n events.
 fn is_taken(ties: &[u64], n: usize, relation: Relation, a: usize, b: usize) -> bool
+    requires { n ≤ 64 }
     ensures { result ≡ taken n (ties_of ties.now) relation a b }
 {
     if is_tied(ties, relation, a, b) {
@@ -144,18 +145,20 @@ fn is_taken(ties: &[u64], n: usize, relation: Relation, a: usize, b: usize) -> b
     }
 }
 
-// Whether some of n events has an rf tie to the read b.
+// Whether some of n events has an rf tie to the read b. That there are at most 64 is said in the code too: it spares a test at each of them.
 fn has_rf(ties: &[u64], n: usize, b: usize) -> bool
+    requires { n ≤ 64 }
     ensures { result ≡ has_rf n (ties_of ties.now) b }
 {
-    (0..n).any(|a| is_tied(ties, Relation::Rf, a, b))
+    (0..n.min(64)).any(|a| is_tied(ties, Relation::Rf, a, b))
 }
 
-// Whether the event e stands in an rmw tie with some of n events.
+// Whether the event e stands in an rmw tie with some of n events, of which the code says too that they are at most 64.
 fn in_rmw(ties: &[u64], n: usize, e: usize) -> bool
+    requires { n ≤ 64 }
     ensures { result ≡ in_rmw n (ties_of ties.now) e }
 {
-    (0..n).any(|d| is_joined(ties, e, d))
+    (0..n.min(64)).any(|d| is_joined(ties, e, d))
 }
 
 // Whether an rmw tie goes from e to d or back.
