@@ -2,8 +2,10 @@
 use Rattle.std.proofs.Common.{◌≡◌, ℕ, zero, suc, ◌+◌, ◌-◌, ◌/◌, ◌%◌, ◌<◌, ◌≤◌, Bool, true, false, cond, ◌&&◌, ltb, List, [], ◌∷◌, ◌++◌, length, get_or, take, Some, None, Option, sym, refl, ap, ◌∙◌, arith}
 use Rattle.std.specs.Bool.{then_some}
 use Rattle.std.proofs.lemmas.Bool.Decides.{nat_tests}
-use Rattle.std.specs.List.{flat_map}
-use Rattle.std.proofs.lemmas.List.{append-nil, append_assoc, take_more, flat_map_more}
+use Rattle.std.specs.List.{flat_map, fold}
+use Rattle.std.specs.Option.{option_len}
+use Rattle.std.specs.Iterator.{Yields}
+use Rattle.std.proofs.lemmas.List.{append-nil, append_assoc, take_more, flat_map_more, length-append}
 use Rattle.std.proofs.lemmas.Bool.{and_right}
 use Rattle.executions.specs.declared.events.Event.{Event as Record}
 use Rattle.executions.specs.declared.ties.Relation.{Relation}
@@ -14,8 +16,8 @@ use Rattle.caselines.specs.declared.lines.Line.TheVariants.{Events, Ties, Tie}
 use Rattle.casetext.specs.Text.{event_lines, tie_lines, ties_below, ties_in, line, text_of}
 use Rattle.casewriter.specs.Laid.{listed, Bare}
 use Rattle.sources.specs.Snapshot.{execution}
-use Rattle.casewriter.specs.declared.ties.TieLines.{TieLines}
-use Rattle.casewriter.specs.Listing.{lines_from, lines_left}
+use Rattle.casewriter.specs.declared.ties.TieNumbers.{TieNumbers}
+use Rattle.casewriter.specs.Listing.{lines_from, lines_ahead, GivesNumber}
 use Rattle.casetext.proofs.Forward.{joined_append}
 use Rattle.casetext.proofs.Listing.{lines_more, listed_length}
 
@@ -96,17 +98,34 @@ from_skip x (suc n) k none h =
 row_skip : (x : Execution) (k : ℕ) → k < 24576 → Bare x k → lines_from x (24576 - k) k ≡ lines_from x (24576 - (k + 64)) (k + 64)
 row_skip x k h bare = from_skip x 64 k bare.none (omega (arith, bare.begins))
 
-pub left_bare : (t : TieLines) → t.number < 24576 → Bare (execution t.case.now) t.number → lines_left t ≡ lines_left (record { case = t.case; number = t.number + 64 })
-unfolding lines_left
-left_bare t h bare = row_skip (execution t.case.now) t.number h bare
+pub ahead_bare : (s : TieNumbers) → s.number < 24576 → Bare (execution s.case.now) s.number → lines_ahead s ≡ lines_ahead (record { case = s.case; number = s.number + 64 })
+unfolding lines_ahead
+ahead_bare s h bare = row_skip (execution s.case.now) s.number h bare
 
-pub left_next : (t : TieLines) (o : Option Line) → t.number < 24576 → listed o ≡ tie_lines (execution t.case.now) t.number → lines_left t ≡ listed o ++ lines_left (record { case = t.case; number = t.number + 1 })
-unfolding lines_left
-left_next t o h lines = rw lines (from_next (execution t.case.now) t.number h)
+pub ahead_next : (s : TieNumbers) → s.number < 24576 → lines_ahead s ≡ tie_lines (execution s.case.now) s.number ++ lines_ahead (record { case = s.case; number = s.number + 1 })
+unfolding lines_ahead
+ahead_next s h = from_next (execution s.case.now) s.number h
 
-pub left_end : (t : TieLines) → 24576 ≤ t.number → lines_left t ≡ []
-unfolding lines_left
-left_end t h = from_end (execution t.case.now) t.number h
+pub ahead_end : (s : TieNumbers) → 24576 ≤ s.number → lines_ahead s ≡ []
+unfolding lines_ahead
+ahead_end s h = from_end (execution s.case.now) s.number h
+
+-- the numbers of a walk to its end have as many lines as were ahead
+pub walked : (x : Execution) (s t u : TieNumbers) (ks : List ℕ) (n : ℕ) → execution s.case.now ≡ x → Yields GivesNumber s ks t → GivesNumber t None u
+    → fold (λ m k. m + length (tie_lines x k)) n ks ≡ n + length (lines_ahead s)
+walked x s t u [] n same gave end = grind (arith, nat_tests)
+walked x s t u (k ∷ ks) n same (j, step, rest) end =
+    walked x j t u ks (n + length (tie_lines x k)) (ap execution step.1 ∙ same) rest end
+    ∙ grind (arith, nat_tests, length-append)
+
+pub all_walked : (x : Execution) (s t u : TieNumbers) (ks : List ℕ) → execution s.case.now ≡ x → Yields GivesNumber s ks t → GivesNumber t None u
+    → fold (λ m k. m + length (tie_lines x k)) 0 ks ≡ length (lines_ahead s)
+all_walked x s t u ks same gave end = grind (arith, walked x s t u ks 0 same gave end)
+
+-- a line is one more, and none is none more
+pub one_more : (n : ℕ) (o : Option Line) (ls : List Line) → listed o ≡ ls → n + length ls ≡ n + option_len o
+one_more n None ls e = grind (arith, nat_tests)
+one_more n (Some l) ls e = grind (arith, nat_tests)
 
 -- an empty row out of an event
 pub bare_row : (x : Execution) (k : ℕ) (r : Relation) → k % 64 ≡ 0 → Some r ≡ relation_of (k / 4096 + 1) → ((b : ℕ) → x.ties r (k / 64 % 64) b ≡ false) → Bare x k

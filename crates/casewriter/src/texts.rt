@@ -6,7 +6,7 @@ ghost use Rattle.casetext.specs.Text.{line as line_of, event_lines, ties_in, tex
 ghost use Rattle.casewriter.specs.Laid.{Put, Writes, listed};
 
 use crate::bytes::Pen;
-use crate::ties::TieLines;
+use crate::ties::{TieLines, TieNumbers, tie_line};
 use caselines::Line;
 use executions::{Event, Sort};
 use sources::Snapshot;
@@ -61,7 +61,9 @@ fn put_ties(case: &Snapshot, pen: &mut Pen)
 pub fn count_ties(case: &Snapshot) -> u32
     ensures { result ≡ length (ties_in (execution case.now)) }
 {
-    TieLines::of(case).count() as u32
+    TieNumbers::of(case)
+        .filter_map(|number| tie_line(case, number))
+        .count() as u32
 }
 
 // The whole text.

@@ -1,11 +1,11 @@
 // The lines of the ties of a case, one after another.
-ghost use Rattle.std.specs.Prelude.{◌≡◌, ◌+◌, ◌/◌, ◌<◌, true};
-ghost use Rattle.std.specs.Iterator.{YieldsFirst, item_count};
+ghost use Rattle.std.specs.Prelude.{◌≡◌, ◌+◌, ◌-◌, ◌/◌, ◌<◌, true};
+ghost use Rattle.std.specs.Iterator.{YieldsFirst, at_most, item_count};
 ghost use Rattle.executions.specs.Ties.{relation_of};
 ghost use Rattle.sources.specs.Snapshot.{execution};
 ghost use Rattle.casetext.specs.Text.{tie_lines, ties_in};
 ghost use Rattle.casewriter.specs.Laid.{listed, Bare};
-ghost use Rattle.casewriter.specs.Listing.{lines_left};
+ghost use Rattle.casewriter.specs.Listing.{GivesNumber, lines_ahead, lines_left};
 
 use caselines::Line;
 use executions::Relation;
@@ -18,18 +18,57 @@ const TIES: usize = 24576;
 // How many of them go out of one event in one relation; their numbers follow one another.
 const ROW: usize = 64;
 
-// The lines of the ties with numbers from `number` on.
+// The numbers of the ties from `number` on. Those of a row that has no tie are passed over at once.
 #[derive(Drop)]
-pub(crate) struct TieLines<'a> {
+pub(crate) struct TieNumbers<'a> {
     pub(crate) case: &'a Snapshot,
     pub(crate) number: usize,
+}
+
+impl<'a> TieNumbers<'a> {
+    pub(crate) fn of(case: &'a Snapshot) -> TieNumbers<'a>
+        ensures same { result.case.now ≡ case.now }
+        ensures all { lines_ahead result ≡ ties_in (execution case.now) }
+    {
+        TieNumbers { case, number: 0 }
+    }
+}
+
+impl<'a> Iterator for TieNumbers<'a> {
+    type Item = usize;
+
+    ghost next_gives = { GivesNumber };
+
+    ghost remaining = { λ s. at_most (24576 - s.number) };
+
+    fn next(&mut self) -> Option<usize> {
+        // Not a range, since a row with no tie is passed over at once.
+        while self.number < TIES {
+            let number = self.number;
+            if is_bare(self.case, number) {
+                self.number += ROW;
+                continue;
+            }
+            self.number += 1;
+            return Some(number);
+        }
+        None
+    }
+}
+
+// The lines of the ties with those numbers.
+#[derive(Drop)]
+pub(crate) struct TieLines<'a> {
+    pub(crate) numbers: TieNumbers<'a>,
 }
 
 impl<'a> TieLines<'a> {
     pub(crate) fn of(case: &'a Snapshot) -> TieLines<'a>
         ensures { lines_left result ≡ ties_in (execution case.now) }
     {
-        TieLines { case, number: 0 }
+        TieLines {
+            numbers: TieNumbers::of(case),
+        }
     }
 }
 
@@ -41,15 +80,9 @@ impl<'a> Iterator for TieLines<'a> {
     ghost remaining = { item_count lines_left };
 
     fn next(&mut self) -> Option<Line> {
-        // Not a range, since a row with no tie is passed over at once.
-        while self.number < TIES {
-            let number = self.number;
-            if is_bare(self.case, number) {
-                self.number += ROW;
-                continue;
-            }
-            self.number += 1;
-            if let Some(line) = tie_line(self.case, number) {
+        // Not `find_map`, of which nothing says that the number at which it stops has a line.
+        while let Some(number) = self.numbers.next() {
+            if let Some(line) = tie_line(self.numbers.case, number) {
                 return Some(line);
             }
         }
@@ -66,7 +99,7 @@ fn relation_at(number: usize) -> Option<Relation>
 }
 
 // The line of the tie of a number, where the case has it.
-fn tie_line(case: &Snapshot, number: usize) -> Option<Line>
+pub(crate) fn tie_line(case: &Snapshot, number: usize) -> Option<Line>
     requires { number < 24576 }
     ensures { listed result ≡ tie_lines (execution case.now) number }
 {

@@ -21,4 +21,4 @@ pub returns-in-Err : goal.returns-in-Err
 returns-in-Err c =
     let o = c.in-Err.ensures in
     let x = bounded (sealed_plain c.args.self.now.case.now c.args.self.now.events.now c.args.self.now.ties.now).execution in
-    refused _ c.in-Err.fault (first_fault x) (WellFormed x → ⊥) c.args.self.now.formed (subst (λ (b : Bool). MatchBool b (c.in-Err.fault ≡ too_short) ((first_fault x ≡ Some c.in-Err.fault) × (WellFormed x → ⊥))) (short_same _ c.min.result c.args.rows c.min.ensures (length-take c.min.result _)) o.1)
+    refused _ c.in-Err.fault (first_fault x) (WellFormed x → ⊥) c.args.self.now.formed (subst (λ (b : Bool). MatchBool b (c.in-Err.fault ≡ too_short) ((first_fault x ≡ Some c.in-Err.fault) × (WellFormed x → ⊥))) (short_same _ c.min.result c.args.rows (omega (arith, c.min.ensures)) (length-take c.min.result _)) o.1)
