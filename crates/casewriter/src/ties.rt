@@ -80,7 +80,7 @@ impl<'a> Iterator for TieLines<'a> {
     ghost remaining = { item_count lines_left };
 
     fn next(&mut self) -> Option<Line> {
-        // Not `find_map`, of which nothing says that the number at which it stops has a line.
+        // Written out, since from what `find_map` promises the check does not find which lines are left.
         while let Some(number) = self.numbers.next() {
             if let Some(line) = tie_line(self.numbers.case, number) {
                 return Some(line);

@@ -1,8 +1,6 @@
 -- Steps of a run from the contracts of the calls.
-use Rattle.std.proofs.Common.{◌≡◌, ℕ, ◌≤◌, min, Bool, true, false, cond, ltb, List, ◌++◌, length, take, drop, MatchBool, append-nil, Some, None, Ok, Err, Option, Result, sym, refl, ap, ◌∙◌, subst, arith}
-use Rattle.std.proofs.lemmas.List.{length-take-le, drop_all}
-use Rattle.std.proofs.lemmas.Bool.Decides.{nat_tests}
-use Rattle.std.proofs.lemmas.Option.{none-some}
+use Rattle.std.proofs.Common.{◌≡◌, ℕ, ◌≤◌, Bool, true, false, cond, List, length, take, Some, None, Ok, Err, Option, Result, sym, refl, ap, ◌∙◌, subst, arith}
+use Rattle.std.proofs.lemmas.List.{length-take-le}
 use Rattle.executions.specs.declared.events.Event.{Event}
 use Rattle.executions.specs.declared.faults.Cause.TheVariants.{TooShort}
 use Rattle.executions.specs.declared.faults.Fault.{Fault}
@@ -10,8 +8,6 @@ use Rattle.sources.specs.Source.{bounded}
 use Rattle.wellformed.specs.Faults.{first_fault}
 use Rattle.tables.specs.Plain.{Plain, Sealed, marked, short, check_refusal, seal_plain}
 use Rattle.tables.specs.Tables.{Tables, plain_of, Exact, Does}
-use Rattle.rulings.specs.Rulings.{too_short}
-use Rattle.runs.specs.declared.kinds.Answer.TheVariants.{Refused}
 
 module _ {A : Type 0} (f : Plain → Plain × A) (before after : Tables) (answer : A) (d : Does f before after answer) where
   pub stays_exact : Exact before → Exact after
@@ -51,17 +47,3 @@ same_either false p q f o e = same_marked p q o e
 
 pub seals_same : (records words : ℕ) (p q : Plain) → seal_plain records words p ≡ (q, Ok tt) → q.execution ≡ p.execution
 seals_same records words p q e = same_either (short records words) p q (check_refusal TooShort 0) (first_fault (bounded p.execution)) (ap (λ (r : Plain × Result (Unit {0}) Fault). r.0) e)
-
--- ---- judging on a sheet of so many rows
-
--- a sheet that is cut at its end is whole
-pub whole : {A : Type 0} (P : List A → Type 0) (front sheet : List A) (m : ℕ) → length sheet ≤ m → P front → P (front ++ drop m sheet)
-whole P front sheet m l h = subst P (sym (ap (◌++◌ front) (drop_all m sheet l) ∙ append-nil front)) h
-
-pub short_same : (n m rows : ℕ) → m ≡ min rows 64 → n ≡ min m 64 → ltb n 64 ≡ ltb rows 64
-short_same n m rows e q = grind (arith, nat_tests)
-
--- a case without faults is refused only for its short sheet
-pub refused : (b : Bool) (f : Fault) (o : Option Fault) (Q : Type 0) → o ≡ None → MatchBool b (f ≡ too_short) ((o ≡ Some f) × Q) → MatchBool b (Refused f ≡ Refused too_short) ⊥
-refused true f o Q e h = ap Refused h
-refused false f o Q e h = none-some f (sym e ∙ h.0)

@@ -15,6 +15,10 @@ as_long n xs ys few long e = length-take-le n xs (omega arith) ∙ e ∙ sym lon
 both_cut : (n : ℕ) (xs ys : List SheetRow) → 64 ≤ length xs → length ys ≡ 64 → n ≤ 64 → length (take n xs) ≡ length (take n ys)
 both_cut n xs ys few long h = length-take-le n xs (omega arith) ∙ sym (length-take-le n ys (omega arith))
 
+-- a copy of all the drawn rows, cut at their end
+all_cut : (n : ℕ) (ys : List SheetRow) → length ys ≡ 64 → n ≡ 64 → take n ys ≡ ys
+all_cut n ys long e = take_all n ys (omega (arith, long, e))
+
 pub copy_from_slice-requires : goal.copy_from_slice-requires
 copy_from_slice-requires g c =
     let few : 64 ≤ length c.args.sheet.now = omega arith in
@@ -29,7 +33,7 @@ returns g c =
     let drawn_long : length drawn ≡ 64 = search rules in
     let front = c.copy_from_slice.new.self in
     let rest = drop 64 c.args.sheet.now in
-    let copied : front ≡ drawn = search (rules, take_all) in
+    let copied : front ≡ drawn = c.copy_from_slice.ensures.after ∙ search (rules, all_cut) in
     let long : length front ≡ 64 = ap length copied ∙ drawn_long in
     let rows : (i : ℕ) → i < 64 → row (front ++ rest) i ≡ row drawn i =
     λ i l. get_or_append_left front rest blank i (omega arith) ∙ ap (λ (s : List SheetRow). row s i) copied in
